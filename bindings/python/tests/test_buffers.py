@@ -10,7 +10,7 @@ import tracemalloc
 import pytest
 
 import yurewha as y
-from yurewha import _declarations, _library
+from yurewha import _declarations, _hashes, _library
 
 MIB = 1 << 20
 DATA = random.Random(21).randbytes(4 * MIB + 3)
@@ -78,8 +78,16 @@ def test_many_chunks_are_copied_a_piece_at_a_time():
     offsets = range(0, len(DATA), 1 << 16)
     expected = y.data_hashes(DATA, offsets)
     assert copied(lambda: y.data_hashes(memoryview(DATA), offsets)) < MIB // 16
-    assert copied(lambda: y.data_hashes(bytearray(DATA), offsets)) < len(DATA) + MIB + MIB // 16
-    assert y.data_hashes(bytearray(DATA), offsets) == expected
+    writable = bytearray(DATA)
+    assert MIB <= copied(lambda: y.data_hashes(writable, offsets)) < MIB + MIB // 16
+    assert copied(lambda: y.data_hashes(writable, offsets, nobody_writes=True)) < MIB // 16
+    assert y.data_hashes(writable, offsets) == y.data_hashes(writable, offsets, nobody_writes=True) == expected
+
+
+@pytest.mark.parametrize("length, threads, share", [
+    (0, 1, 1 << 19), (1 << 21, 2, 1 << 19), (1 << 24, 2, 1 << 21), (1 << 25, 2, 1 << 22), (1 << 40, 2, 1 << 22)])
+def test_how_many_bytes_a_thread_hashes_at_once(length, threads, share):
+    assert _hashes._share(length, threads) == share
 
 
 @pytest.mark.parametrize("length", [0, 1, 2047, 2048, 2049, MIB - 1, MIB, MIB + 1, 2 * MIB, 2 * MIB + 1])

@@ -72,6 +72,7 @@ def test_numpy():
     assert seen.shape == (50,) and seen.dtype.names == ("words", "size") and not seen.flags.writeable
     assert [tuple(int(word) for word in words) for words in seen["words"]] == [h.words for h, _ in PAIRS]
     assert [int(size) for size in seen["size"]] == [size for _, size in PAIRS]
+    assert chunks.__array_interface__["version"] == chunks.hashes.__array_interface__["version"] == 3  # which NumPy ignores
     words = numpy.frombuffer(PACKED, dtype="<u8")
     named = numpy.dtype([("hash", "S32"), ("size", "<u8")])
     raw = numpy.dtype([("hash", "u1", 32), ("size", "<u8")])

@@ -248,6 +248,14 @@ def test_columns_by_arrows_c_data_interface(kind):
         assert len(hashes.lent) == len(column.lent) == 1
 
 
+@pytest.mark.parametrize("offset, count, of_bitmap", [(0, 8, 1), (0, 9, 2), (7, 1, 1), (7, 2, 2), (7, 9, 2), (8, 52, 8)])
+def test_no_byte_past_what_arrow_lends_is_read(monkeypatch, offset, count, of_bitmap):
+    read = []
+    monkeypatch.setattr("yurewha._arrow.string_at", lambda place, length: read.append(length) or ctypes.string_at(place, length))
+    assert y.Hashes(Array("w:32", (RAW, offset, count, of_bitmap * b"\xff"))).packed == RAW[32 * offset:32 * (offset + count)]
+    assert read == [of_bitmap, 32 * count]
+
+
 @pytest.mark.parametrize("column, text", [
     (Array("w:32", (RAW, 3, 20, b"\xff\xef\xff")), "item 9 of the column of Arrow is null"),
     (Stream("w:32", (RAW, 0, 4, None), (RAW, 4, 9, b"\xff\xfe")), "item 8 of the column of Arrow is null"),

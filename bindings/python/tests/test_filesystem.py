@@ -93,6 +93,9 @@ def test_names_with_capitals():
 def test_each_file_has_the_limits_of_the_system():
     file = made(cache_size=11, chunk_limit=12, read_ahead=13, proof_limit=14)._made("a.bin")
     assert (file._cache_size, file._chunk_limit, file._ahead._most, file._proof_limit) == (11, 12, 13, 14)
+    file, alone = made()._made("a.bin"), y.VerifiedFile(HASHES["a.bin"], fetch, prove)
+    for name in ("_cache_size", "_chunk_limit", "_ahead", "_proof_limit"):
+        assert getattr(file, name) == getattr(alone, name)
     for call in (lambda files: files.cat_file("a.bin", 5, 9), lambda files: files.open("a.bin", block_size=1).read(3)):
         files = made(prove=lambda path, start, stop: FILES[path].tree.proof(0, 100), chunk_limit=500)
         with pytest.raises(y.ProofMismatch, match="see chunk_limit"):
@@ -134,6 +137,14 @@ def test_ranges_that_are_near_are_fetched_together():
     ranges = files.cat_ranges(["a"] * 6, starts, [start + 4096 for start in starts])
     assert ranges == [source.data[start:start + 4096] for start in starts]
     assert sorted(source.fetched) == [(0, 4 << 12), (499_712, 4096 * 125)]
+
+
+def test_a_range_after_one_that_lies_within_another_is_fetched_with_them():
+    source = Source(random.Random(56).randbytes(1 << 20), range(0, (1 << 20) + 1, 1 << 12))
+    files = made({"a": source.tree.file_hash()}, lambda path, a, b: source.fetch(a, b), lambda path, a, b: source.prove(a, b))
+    ends = [(0, 1 << 19), (10, 20), (1 << 19, 1 << 20)]
+    assert files.cat_ranges(["a"] * 3, *map(list, zip(*ends))) == [source.data[start:end] for start, end in ends]
+    assert source.fetched == [(0, 1 << 20)]
 
 
 def test_ranges_that_are_far_apart_are_fetched_at_once():

@@ -146,7 +146,8 @@ def test_wrong_picks(at, error):
 def test_wrong_picks_of_numpy():
     numpy = pytest.importorskip("numpy")
     for at, error in ((numpy.ones(59, dtype=bool), IndexError), (numpy.array([60]), IndexError), (numpy.array([0.5]), TypeError),
-                      (numpy.ones((60, 1), dtype=bool), TypeError), (numpy.array([2**64 - 1], dtype="u8"), IndexError)):
+                      (numpy.ones((60, 1), dtype=bool), TypeError), (numpy.ones((0, 60), dtype="i8"), TypeError),
+                      (numpy.array([2**64 - 1], dtype="u8"), IndexError)):
         with pytest.raises(error):
             CHUNKS[at]
 

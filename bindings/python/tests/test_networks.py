@@ -465,6 +465,18 @@ def test_a_server_that_dies_at_once(reader):
 GREAT = Source(random.Random(41).randbytes(12 * MIB), range(0, 12 * MIB + 1, 1 << 16))
 
 
+@READERS
+def test_4_mib_are_kept_unless_another_number_is_given(reader):
+    _, read_at = reader(GREAT)
+    for place in range(0, 12 * MIB, MIB):
+        assert read_at(place, place + MIB) == GREAT.data[place:place + MIB]
+    GREAT.fetched.clear()
+    for place in range(8 * MIB, 12 * MIB, MIB):
+        assert read_at(place, place + MIB) == GREAT.data[place:place + MIB]
+    assert GREAT.fetched == []
+    assert read_at(8 * MIB - 1, 8 * MIB) == GREAT.data[8 * MIB - 1:8 * MIB] and len(GREAT.fetched) == 1
+
+
 def in_steps(file, length):
     return b"".join(iter(lambda: file.read(length), b""))
 

@@ -4,9 +4,9 @@ import ctypes
 import doctest
 import importlib
 import inspect
-import io
 import os
 import pkgutil
+import pydoc
 import re
 import shutil
 import subprocess
@@ -228,6 +228,11 @@ def test_what_is_installed():
     assert _library.LEVEL in LEVELS.get(os.uname().machine, ())
 
 
+def test_what_is_installed_by_a_link(tmp_path):
+    (tmp_path / _library.NAME).symlink_to(Path(LIBRARY, _library.NAME))
+    assert installed(tmp_path)[1] == f"library: {tmp_path / _library.NAME}, version {NUMBER}"
+
+
 @pytest.mark.skipif(not Path("/proc/self/maps").exists(), reason="it needs /proc")
 def test_what_is_installed_where_the_loader_finds_the_library(tmp_path):
     shutil.copytree(PACKAGE, tmp_path / "yurewha", ignore=shutil.ignore_patterns("lib", "__pycache__"))
@@ -292,18 +297,10 @@ def test_the_example_of_the_readme():
     exec(compile(example, "README.md", "exec"), {})
 
 
-def test_the_readme_lists_each_public_call():
-    text = (REPOSITORY / "bindings" / "python" / "README.md").read_text(encoding="utf-8")
-    section = text.split("## All calls\n")[1].split("\n## ")[0]
-    listed = {}
-    for names, calls in re.findall(r"^\| (`.*?) \| .*? \| (.*)\|$", section, flags=re.M):
-        for name in re.findall(r"`([\w.]+)`", names):
-            listed[name] = set(re.findall(r"`(?:\w+\.)?(\w+)`", calls))
-    public = {name: getattr(y, name) for name in y.__all__}
-    errors = {name for name, item in public.items() if inspect.isclass(item) and issubclass(item, Exception)}
-    assert set(listed) == set(public) - errors | {"yurewha.filesystem.VerifiedFileSystem"}
-    for name in public.keys() - errors:
-        members = set(vars(public[name])) if inspect.isclass(public[name]) else set()
-        if name == "VerifiedFile":
-            members -= set(dir(io.RawIOBase))
-        assert {member for member in members if not member.startswith("_")} <= listed[name], name
+def test_the_help_lists_each_public_call():
+    text = pydoc.plain(pydoc.render_doc(y))
+    for name in y.__all__:
+        assert re.search(rf"^    (class )?{name}\b", text, flags=re.M), name
+        members = vars(getattr(y, name)) if inspect.isclass(getattr(y, name)) else {}
+        for member in members:
+            assert member.startswith("_") or re.search(rf"^     \|  {member}\b", text, flags=re.M), f"{name}.{member}"

@@ -1,12 +1,16 @@
 """Pictures: they are well-formed, say what the subtree has, and stay small."""
 
+import runpy
+import sys
 import xml.etree.ElementTree as ElementTree
+from pathlib import Path
 
 import pytest
 
 import yurewha as y
 
 SVG = "{http://www.w3.org/2000/svg}"
+ROOT = Path(__file__).resolve().parents[3]
 
 
 def numbered(first, last):
@@ -103,6 +107,12 @@ def test_wrong_lists_of_captions_and_subtrees(tmp_path):
         y.svg_of([], ["a"])
     assert path.read_text() == "kept"
     assert y.svg_of(iter([tree]), iter(["a"])) == y.svg_of([tree], ("a",))
+
+
+def test_the_picture_of_the_readme(monkeypatch):
+    monkeypatch.setattr(sys, "path", list(sys.path))  # the script adds to it
+    draw = runpy.run_path(str(ROOT / "docs/pictures/draw"))
+    assert draw["subtrees"]() == (ROOT / "bindings/python/merge.svg").read_text(encoding="utf-8")
 
 
 def test_great_ones_stay_small():

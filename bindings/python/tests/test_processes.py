@@ -251,7 +251,7 @@ def test_an_index_in_use_when_a_process_is_forked(name):
     holds, ends = threading.Event(), threading.Event()
 
     def hold():
-        with used._locked():
+        with used._known._locked():
             holds.set()
             ends.wait()
 

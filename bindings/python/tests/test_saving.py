@@ -1,22 +1,22 @@
 """What is saved: whole or not at all, and refused if a byte of it is missing or wrong. Sessions that keep no hashes. Indexes of hashes."""
 
-import collections
 import copy
+import ctypes
 import json
 import os
 import pickle
 import random
-import signal
 import stat
 import subprocess
 import sys
 import threading
+from pathlib import Path
 
 import pytest
 from drawn import MAX
 
 import yurewha as y
-from yurewha import _saving, _session
+from yurewha import _saving
 
 Z = y.Hash()
 
@@ -138,9 +138,11 @@ def test_a_file_whose_permissions_can_not_be_kept_is_not_replaced(tmp_path, monk
     assert y.HashTree.load(path) == old and os.listdir(tmp_path) == ["saved"]
 
 
-def test_the_bytes_are_on_the_disk_before_the_name(tmp_path, monkeypatch):
+@pytest.mark.parametrize("is_here", [False, True])
+def test_the_bytes_are_on_the_disk_before_the_name(tmp_path, monkeypatch, is_here):
     """What a crash leaves is one of two whole files."""
-    path, calls = tmp_path / "saved", []
+    monkeypatch.chdir(tmp_path)
+    path, calls = Path("saved") if is_here else tmp_path / "saved", []
 
     def fsync(file, call=os.fsync):
         calls.append(("fsync", os.fstat(file).st_size if not stat.S_ISDIR(os.fstat(file).st_mode) else "folder"))
@@ -153,6 +155,13 @@ def test_the_bytes_are_on_the_disk_before_the_name(tmp_path, monkeypatch):
     monkeypatch.setattr("os.fsync", fsync), monkeypatch.setattr("os.replace", replace)
     SAVED["session"]().save(path)
     assert calls == [("fsync", path.stat().st_size), ("replace", "saved"), ("fsync", "folder")]
+
+
+@pytest.mark.skipif(not os.path.exists("/proc/self/fd"), reason="it needs /proc")
+def test_nothing_stays_open_after_a_save(tmp_path):
+    before = len(os.listdir("/proc/self/fd"))
+    SAVED["subtree"]().save(tmp_path / "saved")
+    assert len(os.listdir("/proc/self/fd")) == before
 
 
 def test_names_may_be_as_long_as_the_system_allows(tmp_path):
@@ -221,37 +230,49 @@ def test_permissions_stay_and_folders_must_be_there(tmp_path):
 
 # ---- Sessions that keep no hashes
 
-def test_a_session_without_hashes_is_the_same_but_for_them(monkeypatch):
+def loaded(one, path):
+    one.save(path)
+    return y.Session.load(path)
+
+
+FORMS = {
+    "itself": lambda one, path: one, "copy": lambda one, path: one.copy(), "pickle": lambda one, path: pickle.loads(pickle.dumps(one)),
+    "file": loaded, "JSON": lambda one, path: y.Session.from_json(one.to_json(), keep_hashes=False),
+}
+
+
+def put_in_both(one, none, first, chunks):
+    """Puts chunks in a session and in one without hashes. Both take them or neither, and the second counts each hash of theirs as new."""
+    try:
+        one.put(first, chunks)
+    except y.SessionOverlap as error:
+        with pytest.raises(y.SessionOverlap, match=str(error)):
+            none.put(first, chunks)
+    else:
+        assert none.put(first, chunks) == len({hash_ for hash_, _ in chunks})
+
+
+def test_a_session_without_hashes_is_the_same_but_for_them(tmp_path):
     rng = random.Random(71)
-    for forgotten in (1, 5, 1 << 16):
-        monkeypatch.setattr(_session, "_FORGOTTEN", forgotten)
-        for _ in range(30):
-            one, none = y.Session(), y.Session(keep_hashes=False)
-            for _ in range(rng.randrange(12)):
-                first, chunks = rng.randrange(60), [seeded(rng.randrange(30)) for _ in range(rng.randrange(8))]
-                try:
-                    one.put(first, chunks)
-                except y.SessionOverlap as error:
-                    with pytest.raises(y.SessionOverlap, match=str(error)):
-                        none.put(first, chunks)
-                else:
-                    assert none.put(first, chunks) == len({hash_ for hash_, _ in chunks})
-            assert none.runs() == one.runs() and none.gaps(70) == one.gaps(70) and none.total_size == one.total_size
-            assert none.known_hashes() == y.Hashes() and json.loads(none.to_json())["known_hashes"] == []
-            assert json.loads(none.to_json())["runs"] == json.loads(one.to_json(hashes=False))["runs"]
-            read = y.Session.from_json(one.to_json(), keep_hashes=False)
-            for other in (none.copy(), copy.deepcopy(none), pickle.loads(pickle.dumps(none)), read):
-                assert other == none and other.known_hashes() == y.Hashes()
-                other.put(200, [seeded(1)] * 2)
-                assert other.known_hashes() == y.Hashes() and other.put(300, [seeded(1)] * 2) == 1
+    for _ in range(60):
+        one, none = y.Session(), y.Session(keep_hashes=False)
+        for _ in range(rng.randrange(12)):
+            put_in_both(one, none, rng.randrange(60), [seeded(rng.randrange(30)) for _ in range(rng.randrange(8))])
+        assert none.runs() == one.runs() and none.gaps(70) == one.gaps(70) and none.total_size == one.total_size
+        assert none.known_hashes() == y.Hashes() and json.loads(none.to_json())["known_hashes"] == []
+        assert json.loads(none.to_json())["runs"] == json.loads(one.to_json(hashes=False))["runs"]
+        for form in FORMS:
+            other = FORMS[form](none.copy(), tmp_path / "saved")
+            assert other == none and other.known_hashes() == y.Hashes()
+            assert [other.put(place, [seeded(1)] * 2) for place in (200, 300)] == [1, 1] and other.known_hashes() == y.Hashes()
+        assert y.Session.from_json(one.to_json(), keep_hashes=False) == none
 
 
-def test_what_a_session_without_hashes_holds_is_bounded():
-    """The library has few of them at any time."""
+def test_a_session_without_hashes_holds_none():
     one = y.Session(keep_hashes=False)
     for first in range(0, 400_000, 20_000):
-        one.put(first, b"".join(number.to_bytes(32, "little") + bytes(8) for number in range(first, first + 20_000)))
-        assert one._all_known_hashes() is not None and len(one._all_known_hashes()) < _session._FORGOTTEN + 20_000
+        block = b"".join(number.to_bytes(32, "little") + bytes(8) for number in range(first, first + 20_000))
+        assert one.put(first, block) == 20_000 and len(one.known_hashes()) == 0
     assert one.num_chunks == 400_000 and one.num_runs == 1
 
 
@@ -261,7 +282,7 @@ def test_a_session_without_hashes_keeps_none():
     with pytest.raises(y.InvalidArguments, match="^this session keeps no hashes$"):
         one.keep_hashes([Z])
     one.put(0, [(Z, 1)])
-    assert Z not in one
+    assert Z not in one and one.contains([Z, Z]) == [False, False]
     for wrong in (0, 1, None, "no"):
         for call in (lambda: y.Session(keep_hashes=wrong), lambda: one.to_json(hashes=wrong), lambda: one.save("a", hashes=wrong),
                      lambda: y.Session.from_json("{}", keep_hashes=wrong)):
@@ -281,106 +302,6 @@ def test_saved_runs_are_short(tmp_path):
     assert len(one.to_json(hashes=False)) < 100_000 < len(one.to_json()) and y.Session.load(tmp_path / "runs").runs() == one.runs()
 
 
-def test_a_handler_that_changes_a_session_while_it_forgets(monkeypatch):
-    """It is refused, so that nothing is lost."""
-    monkeypatch.setattr(_session, "_FORGOTTEN", 1)
-    one, told = session(keep_hashes=False), []
-
-    def handler(number, frame):
-        for call in (lambda: one.put(100, [seeded(1)]), lambda: one.push_run(100, 101, y.Subtree.from_chunks(False, [seeded(1)], False))):
-            try:
-                call()
-            except y.ReentrantCall:
-                told.append(1)
-
-    walk = y.Session._walk
-
-    def walking(self):
-        if self is one:
-            signal.raise_signal(signal.SIGUSR1)
-        return walk(self)
-
-    before = signal.signal(signal.SIGUSR1, handler)
-    try:
-        monkeypatch.setattr(y.Session, "_walk", walking)
-        one.put(50, [seeded(4)])
-    finally:
-        signal.signal(signal.SIGUSR1, before)
-    monkeypatch.undo()
-    assert told == [1, 1] and [run.first for run in one.runs()] == [2, 7, 50]
-
-
-class Counted:
-    """The calls of the library, and how often each of them was made."""
-
-    def __init__(self, calls):
-        self._calls, self.made = calls, collections.Counter()
-
-    def __getattr__(self, name):
-        def call(*given):
-            self.made[name] += 1
-            return getattr(self._calls, name)(*given)
-        return call
-
-
-def loaded(one, path):
-    one.save(path)
-    return y.Session.load(path)
-
-
-FORMS = {
-    "itself": lambda one, path: one, "copy": lambda one, path: one.copy(), "pickle": lambda one, path: pickle.loads(pickle.dumps(one)),
-    "file": loaded, "JSON": lambda one, path: y.Session.from_json(one.to_json(), keep_hashes=False),
-}
-
-
-@pytest.mark.parametrize("form", FORMS)
-def test_a_session_without_hashes_is_made_anew_now_and_then(form, tmp_path, monkeypatch):
-    """After each 100 chunks that were put, and not with each put after the first 100."""
-    monkeypatch.setattr(_session, "_FORGOTTEN", 100)
-    one = FORMS[form](session(keep_hashes=False), tmp_path / "saved")
-    counted = Counted(_session.short)
-    monkeypatch.setattr(_session, "short", counted)
-    for place in range(1000):
-        one.put(100 + place, [(y.Hash(place.to_bytes(32, "little")), 1)])
-        assert len(one._all_known_hashes()) < 103
-    assert counted.made["yurewha_session_new"] == 10 and one.num_runs == 3 and one.num_chunks == 1003
-
-
-def test_a_put_lists_its_hashes_only_if_they_are_counted(monkeypatch):
-    """A session that keeps hashes leaves that to the library, also once somebody asked for one."""
-    listed, list_of = [], _session.raws_of_chunks
-    monkeypatch.setattr(_session, "raws_of_chunks", lambda packed: listed.append(len(packed) // 40) or list_of(packed))
-    one, forgetful = session(), y.Session(keep_hashes=False)
-    assert seeded(1)[0] in one and one.put(100, [seeded(1), seeded(9)]) == 1 and seeded(9)[0] in one
-    assert listed == [] and forgetful.put(0, [seeded(1)] * 2) == 1 and listed == [2]
-
-
-def test_without_memory_for_a_list_nothing_is_put(monkeypatch):
-    def none(packed):
-        raise MemoryError
-
-    one = session(keep_hashes=False)
-    with monkeypatch.context() as patch:
-        patch.setattr(_session, "raws_of_chunks", none)
-        with pytest.raises(MemoryError):
-            one.put(100, [seeded(9)])
-    assert one == session(keep_hashes=False) and not one.taken(100)
-
-
-def test_without_memory_to_forget_hashes_they_stay(monkeypatch):
-    """The put is done then, so it raises nothing. The next one forgets them."""
-    def none(*given):
-        raise y.OutOfMemory
-
-    monkeypatch.setattr(_session, "_FORGOTTEN", 3)
-    one = y.Session(keep_hashes=False)
-    with monkeypatch.context() as patch:
-        patch.setattr(y.Session, "_push", none)
-        assert one.put(0, [seeded(k) for k in range(3)]) == 3 and len(one._all_known_hashes()) == 3
-    assert one.put(3, [seeded(3)]) == 1 and len(one._all_known_hashes()) == 0 and one.num_chunks == 4
-
-
 # ---- Comparing, looking for hashes, and what is said of gaps
 
 def test_equal_sessions():
@@ -389,7 +310,7 @@ def test_equal_sessions():
     assert other == session() and other.put(100, [seeded(1)]) == 0 and other != session()
     knowing = session()
     knowing.keep_hashes([Z])
-    assert knowing != session() and session() != 7 and not session() == "session"
+    assert knowing != session() != knowing and session() != 7 and not session() == "session"
     turned = y.Session()
     turned.put(2, [seeded(1)]), turned.put(7, [seeded(3)]), turned.put(3, [seeded(2)])
     assert turned == session()
@@ -522,9 +443,23 @@ def test_threads_share_an_index():
     assert sum(news) == len(index) == 3000
 
 
-def test_an_index_has_little_more_than_a_set():
-    """By what sys.getsizeof says of the sets and of what is in them."""
-    raws = [random.Random(74).randbytes(32) for _ in range(2)] + [number.to_bytes(32, "big") for number in range(50_000)]
-    plain, index = set(raws), y.HashIndex(b"".join(raws))
-    sizes = [sys.getsizeof(them) + sum(map(sys.getsizeof, them)) for them in (plain, index._raws)]
-    assert sizes[1] <= 1.5 * sizes[0]
+class MallInfo(ctypes.Structure):
+    """What glibc says of its heap: the bytes of blocks in use are `hblkhd` and `uordblks`."""
+
+    _fields_ = [(name, ctypes.c_size_t) for name in (
+        "arena", "ordblks", "smblks", "hblks", "hblkhd", "usmblks", "fsmblks", "uordblks", "fordblks", "keepcost")]
+
+
+@pytest.mark.skipif(not hasattr(ctypes.CDLL(None), "mallinfo2"), reason="only glibc says what its heap has in use")
+def test_an_index_takes_60_bytes_for_each_hash():
+    """A hash has 32 bytes, and half of the places of a table that has just grown are free."""
+    mallinfo = ctypes.CDLL(None).mallinfo2
+    mallinfo.restype = MallInfo
+
+    def in_use():
+        now = mallinfo()
+        return now.hblkhd + now.uordblks
+
+    packed, before = random.Random(74).randbytes(32 * 100_000), in_use()
+    index = y.HashIndex(packed)
+    assert len(index) == 100_000 and 33 * len(index) < in_use() - before < 80 * len(index)

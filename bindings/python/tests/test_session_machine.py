@@ -156,7 +156,6 @@ KINDS = ["put"] * 6 + ["keep", "push", "broken put", "broken keep", "in", "in"]
 @pytest.mark.parametrize("seed", range(40))
 def test_drawn_steps(seed, tmp_path, monkeypatch):
     rng = random.Random(seed)
-    monkeypatch.setattr(_session, "_FORGOTTEN", rng.choice((1, 5, 1 << 16)))
     monkeypatch.setattr(_session, "MANY_NODES", rng.choice((1, 1 << 18)))  # from how many chunks on a thread does the work
     keeps = rng.random() < 0.6
     session, model = y.Session(keep_hashes=keeps), Model(keeps)
@@ -205,11 +204,8 @@ class Handler:
             sys.settrace(before)
 
 
-def orders(outer, inner, refused, raised):
-    """The orders of two steps that are right if one is made inside the other. One that was refused, or that a handler ended, may be
-    missing."""
-    if refused:
-        return [[outer], []] if raised else [[outer]]
+def orders(outer, inner, raised):
+    """The orders of two steps that are right if one is made inside the other. One that a handler ended may be missing."""
     return [[inner, outer], [outer, inner]] + ([[inner]] if raised else [])
 
 
@@ -232,9 +228,9 @@ def made_inside(session, model, outer, inner, handler):
     came = handler.work is None
     if not came:
         told[inner] = inner.on(session, after)
-    refused, raised = told[inner] is y.ReentrantCall, told[outer] is Ended
-    assert not (refused and model.keeps) and raised <= handler.raises
-    found = [outcome(model, order, after) for order in orders(outer, inner, refused, raised)]
+    raised = told[outer] is Ended
+    assert raised <= handler.raises
+    found = [outcome(model, order, after) for order in orders(outer, inner, raised)]
     fitting = [then for then, answers in found if says(session, then) and agree(told, answers)]
     assert fitting, (outer.kind, inner.kind, told)
     return fitting[0], came
@@ -243,7 +239,6 @@ def made_inside(session, model, outer, inner, handler):
 @pytest.mark.parametrize("seed", range(40))
 def test_a_handler_makes_steps_inside_steps(seed, monkeypatch):
     rng = random.Random(1000 + seed)
-    monkeypatch.setattr(_session, "_FORGOTTEN", rng.choice((1, 5, 1 << 16)))
     for _ in range(20):
         keeps = rng.random() < 0.7
         session, model = y.Session(keep_hashes=keeps), Model(keeps)
@@ -260,8 +255,7 @@ def test_a_handler_makes_steps_inside_steps(seed, monkeypatch):
 @pytest.mark.parametrize("inner", ["put", "in"])
 @pytest.mark.parametrize("outer", ["put", "keep", "push", "in"])
 def test_a_handler_at_each_instruction(outer, inner, keeps, raises, monkeypatch):
-    """A session without hashes forgets them with each put. Every second time it is changed again before somebody asks for a hash."""
-    monkeypatch.setattr(_session, "_FORGOTTEN", 1)
+    """Every second time the session is changed again before somebody asks for a hash."""
     rng = random.Random(f"{outer} {inner} {keeps} {raises}")
     for at in range(2000):
         session, model = y.Session(keep_hashes=keeps), Model(keeps)

@@ -102,6 +102,12 @@ def test_stable_points():
     assert counts(y.Subtree.from_chunks(False, seven, True)) == [(4, 0), (1, 0)]
 
 
+@pytest.mark.parametrize("count, shown", [(8, 7 * ["(0, 0)"]), (9, 4 * ["(0, 0)"] + [".."] + 3 * ["(0, 0)"])])
+def test_a_subtree_shows_eight_levels_or_the_ends_of_more(count, shown):
+    tree = y.Subtree.from_flat(True, (count - 1) * [(0, 0)] + [(1, 0)], [(Z, 1)], True)
+    assert repr(tree) == f"<yurewha.Subtree at the start and at the end, levels {' '.join(shown)} (1, 0), 1 bytes>"
+
+
 def test_merging():
     tree = y.Subtree.from_chunks(False, numbered(0, 19), False)
     assert counts(tree) == [(8, 4), (2, 0)] and tree.num_nodes == 14

@@ -335,7 +335,7 @@ def test_a_proof_that_goes_too_far_is_refused_before_anything_is_fetched():
     for prove, options in (
         (lambda a, b: source.tree.proof(0, source.tree.chunks_at(a, b)[1]), {"chunk_limit": 1000}),
         (lambda a, b: source.tree.proof(source.tree.chunks_at(a, b)[0], 150), {"chunk_limit": 1000}),
-        (lambda a, b: y.RangeProof.from_flat([], [(source.tree.root, 3 << 20)]), {}),
+        (lambda a, b: y.RangeProof.from_flat([], [(source.tree.root, b + (1 << 20) + 1)]), {}),
         (lambda a, b: y.RangeProof.from_flat([], [(source.tree.root, 2**64 - 1)]), {}),
     ):
         file = y.VerifiedFile(source.tree.file_hash(), source.fetch, prove, **options)

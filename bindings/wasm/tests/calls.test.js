@@ -130,12 +130,19 @@ test("texts are strings, marks are true or false, and lists are of pairs", () =>
         assert.throws(() => y.Subtree.fromFlat({ atStart: true, levels: [], nodes: [], atEnd: value }), TypeError);
     }
     const hash = new y.Hash();
-    for (const value of [null, 5, [hash], [[hash]], [[hash, 1, 2]], [["00", 1]], [[null, 1]], ["ab"]]) {
+    for (const value of [null, 5, [hash], [[hash]], [[hash, 1, 2]], [{ 0: hash, 1: 1, length: 2 }], [["00", 1]], [[null, 1]], ["ab"]]) {
         assert.throws(() => y.xorbHash(value), TypeError);
         assert.throws(() => y.findStableStart(value), TypeError);
     }
     for (const levels of [null, [1], [[1]], [[1, 2, 3]]]) {
         assert.throws(() => y.Subtree.fromFlat({ atStart: true, levels, nodes: [], atEnd: true }), TypeError);
+    }
+});
+
+test("an error shows a long text by its first 70 characters", () => {
+    const letters = "x".repeat(70);
+    for (const [text, shown] of [[letters, letters], [`${letters}y`, `${letters}...`]]) {
+        assert.throws(() => y.Hash.fromHex(text), new errors.InvalidText(`the hex text of a hash must be 64 hex digits, got "${shown}"`));
     }
 });
 
@@ -148,9 +155,9 @@ test("an object of another instance is none of this one", async () => {
     assert.throws(() => here.mergeInto(there), TypeError);
     assert.throws(() => here.equals(there), TypeError);
     assert.throws(() => y.Subtree.merge([here, there]), TypeError);
-    for (const value of [null, undefined, 1, {}, []]) {
-        assert.throws(() => here.mergeInto(value), TypeError);
-        assert.throws(() => new y.Hash().equals(value), TypeError);
+    for (const [value, got] of [[null, "null"], [undefined, "undefined"], [1, "1"], [{}, "an object"], [[], "an array"]]) {
+        assert.throws(() => here.mergeInto(value), new TypeError(`a range must be a Subtree of the same module, got ${got}`));
+        assert.throws(() => new y.Hash().equals(value), new TypeError(`the hash must be a Hash of the same module, got ${got}`));
     }
     assert.throws(() => new y.Subtree(), TypeError);
 });
@@ -329,6 +336,14 @@ test("a hasher goes on after it was asked, and its copies are apart", () => {
     assert.ok(copy.digest().equals(y.dataHash(bytesOf(100))));
     assert.deepEqual([hasher.count, copy.count], [200n, 100n]);
     assert.ok(y.Hasher.internalNode().update(bytesOf(5)).digest().equals(y.internalNodeHash(bytesOf(5))));
+});
+
+test("the number of bytes that a hasher got is of 64 bits", async () => {
+    // WebAssembly's numbers of 64 bits have a sign in JavaScript.
+    for (const [given, count] of [[2n ** 32n + 5n, 2n ** 32n + 5n], [-1n, MAX]]) {
+        const { yurewha } = await wrapped(BYTES, (exports) => ({ ...exports, yurewha_hasher_count: () => given }));
+        assert.equal(new yurewha.Hasher().count, count);
+    }
 });
 
 test("a stream is hashed by its pieces, and cancelled at a piece that is none", async () => {
@@ -547,6 +562,28 @@ test("a session knows the hashes of its chunks and those that were kept", () => 
     assert.deepEqual(known(session), [true, false, false]);
     session.keepHashes([kept]);
     assert.deepEqual([known(session), known(session.clone())], [[true, true, false], [true, true, false]]);
+});
+
+test("a session without hashes knows none, in whatever form it was saved", () => {
+    const session = new y.Session({ keepHashes: false });
+    const [one, two] = [1, 2].map((seed) => y.Hash.randomFromSeed(seed));
+    const text = (() => {
+        const keeping = new y.Session();
+        keeping.put(0, [[one, 7]]);
+        return keeping.toJSON();
+    })();
+    assert.deepEqual([session.put(0, [[one, 7]]), session.keepsHashes, new y.Session({}).keepsHashes], [1, false, true]);
+    const forms = {
+        itself: session, clone: session.clone(), saved: y.Session.restore(session.saved, { keepHashes: false }),
+        json: y.Session.fromJSON(text, { keepHashes: false }),
+    };
+    for (const [form, it] of Object.entries(forms)) {
+        assert.deepEqual([it.numChunks, it.put(5, [[one, 7], [two, 7], [one, 7]]), it.put(9, [[one, 7]])], [1n, 2, 1], form);
+        assert.deepEqual([it.knows(one), it.knownHashes(), it.keepsHashes], [false, [], false], form);
+        it.keepHashes([]);
+        assert.throws(() => it.keepHashes([one]), new errors.InvalidArguments("this session keeps no hashes"));
+    }
+    for (const keepHashes of [0, null, "no"]) assert.throws(() => new y.Session({ keepHashes }), TypeError);
 });
 
 test("the size of a session is exact for great sizes, and for many", () => {

@@ -355,6 +355,7 @@ test("arguments have their types", async () => {
         assert.throws(() => proof.openRoot(value), TypeError);
         assert.throws(() => proof.equals(value), TypeError);
     }
+    for (const value of [new y.Hash(), new y.Chunks()]) assert.throws(() => proof.equals(value), TypeError); // they have bytes, too
     assert.throws(() => proof.open(other.Hash.fromHex(FILE_HASH)), TypeError);
     assert.throws(() => new y.OpenedRange(), TypeError);
     assert.throws(() => new y.HashTree(), TypeError);

@@ -370,11 +370,14 @@ test("arguments have their types, and results too", async () => {
     const hash = tree.fileHash();
     for (const value of [null, undefined, 5, {}, true]) {
         await assert.rejects(y.VerifiedBlob.open(value, bytesOf, proofOf), TypeError);
-        await assert.rejects(y.VerifiedBlob.open(hash, value, proofOf), TypeError);
-        await assert.rejects(y.VerifiedBlob.open(hash, bytesOf, value), TypeError);
+        // Of the empty file nothing is fetched.
+        for (const fileHash of [hash, new y.Hash()]) {
+            await assert.rejects(y.VerifiedBlob.open(fileHash, value, proofOf), TypeError);
+            await assert.rejects(y.VerifiedBlob.open(fileHash, bytesOf, value), TypeError);
+        }
         await assert.rejects(y.VerifiedBlob.open(hash, () => value, proofOf), TypeError);
         await assert.rejects(y.VerifiedBlob.open(hash, bytesOf, () => value), TypeError);
-        if (value !== undefined) await assert.rejects(open({ type: value }), TypeError);
+        if (value !== undefined) await assert.rejects(open({ type: value }), { name: "TypeError", message: /^a type must be a string, got / });
     }
     for (const name of ["cacheSize", "chunkLimit"]) {
         for (const value of [1.5, "1", null]) await assert.rejects(open({ [name]: value }), TypeError);

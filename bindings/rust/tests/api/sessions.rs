@@ -50,6 +50,22 @@ fn a_session_knows_the_hashes_of_its_chunks_and_those_that_were_kept() {
 }
 
 #[test]
+fn a_session_without_hashes_knows_none() {
+    let chunk = (MerkleHash::random_from_seed(1), 100);
+    let mut session = Session::without_hashes();
+    assert_eq!(session.put(7, &[chunk; 3]), Ok(1));
+    for mut session in [session.clone(), session] {
+        assert_eq!(session.put(0, &[chunk]), Ok(1));
+        assert!(!session.knows(&chunk.0) && !session.keeps_hashes());
+        assert_eq!(session.known_hashes(), Ok(vec![]));
+        assert_eq!(session.keep_hashes(&[]), Ok(()));
+        assert_eq!(session.keep_hashes(&[chunk.0]), Err(CoreError::InvalidArguments));
+        assert_eq!((session.num_chunks(), session.total_size()), (4, 400));
+    }
+    assert!(Session::new().keeps_hashes());
+}
+
+#[test]
 fn a_file_hash_under_a_salt_is_that_of_the_list() {
     let empty = (MerkleHash::default(), 0);
     let salts = [[0; 32], [7; 32]];
