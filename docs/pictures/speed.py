@@ -22,9 +22,9 @@ class Bar(NamedTuple):
 
 
 def rows(file: str) -> list[list[str]]:
-    """The cells of each line of the tables in a file of results."""
+    """The cells of each line of the tables in a file of results: columns are two spaces apart."""
     lines = (RESULTS / file).read_text(encoding="utf-8").splitlines()
-    return [[cell.strip() for cell in line.split("|")[1:-1]] for line in lines if line.startswith("|")]
+    return [re.split(" {2,}", line) for line in lines if "  " in line]
 
 
 def when(file: str) -> tuple[str, str]:
@@ -36,7 +36,7 @@ def when(file: str) -> tuple[str, str]:
 
 def hashing() -> Iterator[Bar]:
     """A chunk of 64 KiB that isn't in a cache, at each level of processors, compared with `blake3` with the same instructions."""
-    table = rows("hashes.md")
+    table = rows("hashes.txt")
     column = table[0].index("64 KiB, cold")
     for level, peer, name in (
         ("x86-64", "SSE2", "SSE2"), ("x86-64-v2", "SSE4.1", "SSE4.1"), ("x86-64-v3", "AVX2", "AVX2"), ("x86-64-v4", "SIMD", "AVX-512")
@@ -47,9 +47,11 @@ def hashing() -> Iterator[Bar]:
 
 def roots() -> Iterator[Bar]:
     """Roots of lists, compared with a loop over `blake3` with all that the processor has; these rows come last."""
-    found = {row[0]: row for row in rows("roots.md") if len(row) > 4 and row[2] == "a loop, the crate `hex`"}
+    table = rows("roots.txt")
+    column = table[0].index("by a loop, the crate `hex`")
+    found = {row[0]: row for row in table}
     for task, name in (("10^4", "10,000 chunks"), ("10^5", "100,000 chunks"), ("10^6", "1,000,000 chunks")):
-        yield Bar(name, 100 / float(found[f"`xorb_hash`, {task} chunks"][4].split(" ")[0]))
+        yield Bar(name, 100 / float(found[f"`xorb_hash`, {task} chunks"][column].split(" ")[0]))
 
 
 def bars(top: int, most: int, head: str, peer: str, all_bars: list[Bar]) -> Iterator[str]:
@@ -72,7 +74,7 @@ def bars(top: int, most: int, head: str, peer: str, all_bars: list[Bar]) -> Iter
 
 def speed() -> str:
     """Bars of speed: 100 % is as fast as the other code."""
-    (day, processor), (other_day, other) = when("hashes.md"), when("roots.md")
+    (day, processor), (other_day, other) = when("hashes.txt"), when("roots.txt")
     days = day if day == other_day else f"{day} and {other_day}"
     assert processor == other
     first, second = list(hashing()), list(roots())
@@ -83,5 +85,5 @@ def speed() -> str:
     return picture(title, "; ".join(f"{bar.name}: {bar.percent:.0f} %" for bar in first + second), last + 18, [
         *bars(top, most, "Hash of a chunk of 64 KiB that isn't in a cache", "beside the crate blake3 with the same instructions", first),
         *bars(next_top, most, "Root of a list", "beside a plain loop over blake3, which uses all that the processor has", second),
-        text(20, last, f"bench/results/hashes.md and roots.md, {days}, {processor}", "quiet"),
+        text(20, last, f"bench/results/hashes.txt and roots.txt, {days}, {processor}", "quiet"),
     ])

@@ -1,4 +1,4 @@
-"""The pictures of docs/SCALE.md, as SVG that is read on light and dark pages."""
+"""The pictures of docs/LIMITS.md, as SVG that is read on light and dark pages."""
 
 from __future__ import annotations
 
