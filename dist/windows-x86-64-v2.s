@@ -4062,11 +4062,13 @@
 	movq	24(%r8), %rax
 	shlq	$10, %rax
 	movdqu	(%rdx,%r9), %xmm11
+	prefetcht0	128(%rdx,%r9)
 	movdqu	16(%rdx,%r9), %xmm12
 	movups	32(%rdx,%r9), %xmm14
 	movups	48(%rdx,%r9), %xmm0
 	movaps	%xmm0, 48(%rsp)
 	movdqu	(%r11,%r9), %xmm0
+	prefetcht0	128(%r11,%r9)
 	movdqu	16(%r11,%r9), %xmm6
 	movups	32(%r11,%r9), %xmm3
 	movups	48(%r11,%r9), %xmm1
@@ -4075,10 +4077,12 @@
 	movdqa	%xmm2, %xmm13
 	punpckhdq	%xmm0, %xmm11
 	movdqu	(%r10,%r9), %xmm7
+	prefetcht0	128(%r10,%r9)
 	movdqu	16(%r10,%r9), %xmm5
 	movups	32(%r10,%r9), %xmm2
 	movups	48(%r10,%r9), %xmm0
 	movdqu	(%rax,%r9), %xmm8
+	prefetcht0	128(%rax,%r9)
 	movdqu	16(%rax,%r9), %xmm9
 	movups	32(%rax,%r9), %xmm4
 	movdqa	%xmm7, %xmm10

@@ -3494,26 +3494,34 @@
 	movq	56(%r8), %rax
 	shlq	$10, %rax
 	vmovdqu	(%rcx,%r9), %ymm2
+	prefetcht0	128(%rcx,%r9)
 	vmovups	32(%rcx,%r9), %ymm0
 	vmovdqu	(%rdx,%r9), %ymm3
+	prefetcht0	128(%rdx,%r9)
 	vmovups	32(%rdx,%r9), %ymm1
 	vpunpckldq	%ymm3, %ymm2, %ymm7
 	vpunpckhdq	%ymm3, %ymm2, %ymm8
 	vmovdqu	(%r10,%r9), %ymm4
+	prefetcht0	128(%r10,%r9)
 	vmovups	32(%r10,%r9), %ymm2
 	vmovdqu	(%r11,%r9), %ymm5
+	prefetcht0	128(%r11,%r9)
 	vmovups	32(%r11,%r9), %ymm3
 	vpunpckldq	%ymm5, %ymm4, %ymm9
 	vpunpckhdq	%ymm5, %ymm4, %ymm10
 	vmovdqu	(%rdi,%r9), %ymm6
+	prefetcht0	128(%rdi,%r9)
 	vmovups	32(%rdi,%r9), %ymm4
 	vmovdqu	(%rbx,%r9), %ymm11
+	prefetcht0	128(%rbx,%r9)
 	vmovups	32(%rbx,%r9), %ymm5
 	vpunpckldq	%ymm11, %ymm6, %ymm12
 	vpunpckhdq	%ymm11, %ymm6, %ymm11
 	vmovdqu	(%r14,%r9), %ymm13
+	prefetcht0	128(%r14,%r9)
 	vmovups	32(%r14,%r9), %ymm6
 	vmovdqu	(%rax,%r9), %ymm14
+	prefetcht0	128(%rax,%r9)
 	vpunpckldq	%ymm14, %ymm13, %ymm15
 	vpunpckhdq	%ymm14, %ymm13, %ymm13
 	vpunpcklqdq	%ymm9, %ymm7, %ymm14

@@ -4316,50 +4316,66 @@
 	movq	8(%r8), %rsi
 	shlq	$10, %rdx
 	vmovdqu64	(%rdx,%r9), %zmm0
+	prefetcht0	128(%rdx,%r9)
 	shlq	$10, %rsi
 	vmovdqu64	(%rsi,%r9), %zmm1
+	prefetcht0	128(%rsi,%r9)
 	movq	16(%r8), %rdx
 	shlq	$10, %rdx
 	vmovdqu64	(%rdx,%r9), %zmm2
+	prefetcht0	128(%rdx,%r9)
 	movq	24(%r8), %rdx
 	shlq	$10, %rdx
 	vmovdqu64	(%rdx,%r9), %zmm3
+	prefetcht0	128(%rdx,%r9)
 	movq	32(%r8), %rdx
 	shlq	$10, %rdx
 	vmovdqu64	(%rdx,%r9), %zmm4
+	prefetcht0	128(%rdx,%r9)
 	movq	40(%r8), %rdx
 	shlq	$10, %rdx
 	vmovdqu64	(%rdx,%r9), %zmm5
+	prefetcht0	128(%rdx,%r9)
 	movq	48(%r8), %rdx
 	shlq	$10, %rdx
 	vmovdqu64	(%rdx,%r9), %zmm16
+	prefetcht0	128(%rdx,%r9)
 	movq	56(%r8), %rdx
 	shlq	$10, %rdx
 	vmovdqu64	(%rdx,%r9), %zmm17
+	prefetcht0	128(%rdx,%r9)
 	movq	64(%r8), %rdx
 	shlq	$10, %rdx
 	vmovdqu64	(%rdx,%r9), %zmm18
+	prefetcht0	128(%rdx,%r9)
 	movq	72(%r8), %rdx
 	shlq	$10, %rdx
 	vmovdqu64	(%rdx,%r9), %zmm19
+	prefetcht0	128(%rdx,%r9)
 	movq	80(%r8), %rdx
 	shlq	$10, %rdx
 	vmovdqu64	(%rdx,%r9), %zmm20
+	prefetcht0	128(%rdx,%r9)
 	movq	88(%r8), %rdx
 	shlq	$10, %rdx
 	vmovdqu64	(%rdx,%r9), %zmm21
+	prefetcht0	128(%rdx,%r9)
 	movq	96(%r8), %rdx
 	shlq	$10, %rdx
 	vmovdqu64	(%rdx,%r9), %zmm22
+	prefetcht0	128(%rdx,%r9)
 	movq	104(%r8), %rdx
 	shlq	$10, %rdx
 	vmovdqu64	(%rdx,%r9), %zmm23
+	prefetcht0	128(%rdx,%r9)
 	movq	112(%r8), %rdx
 	shlq	$10, %rdx
 	vmovdqu64	(%rdx,%r9), %zmm24
+	prefetcht0	128(%rdx,%r9)
 	movq	120(%r8), %rdx
 	shlq	$10, %rdx
 	vmovdqu64	(%rdx,%r9), %zmm25
+	prefetcht0	128(%rdx,%r9)
 	vpunpckldq	%zmm1, %zmm0, %zmm26
 	vpunpckhdq	%zmm1, %zmm0, %zmm0
 	vpunpckldq	%zmm3, %zmm2, %zmm1
@@ -7542,26 +7558,34 @@
 	movq	56(%r8), %r8
 	shlq	$10, %r8
 	vmovdqu	(%rdx,%r9), %ymm0
+	prefetcht0	128(%rdx,%r9)
 	vmovdqu	32(%rdx,%r9), %ymm3
 	vmovdqu	(%rsi,%r9), %ymm1
+	prefetcht0	128(%rsi,%r9)
 	vmovdqu	32(%rsi,%r9), %ymm4
 	vpunpckldq	%ymm1, %ymm0, %ymm2
 	vpunpckhdq	%ymm1, %ymm0, %ymm0
 	vmovdqu	(%rdi,%r9), %ymm1
+	prefetcht0	128(%rdi,%r9)
 	vmovdqu	32(%rdi,%r9), %ymm5
 	vmovdqu64	(%rbx,%r9), %ymm16
+	prefetcht0	128(%rbx,%r9)
 	vmovdqu64	32(%rbx,%r9), %ymm19
 	vpunpckldq	%ymm16, %ymm1, %ymm17
 	vpunpckhdq	%ymm16, %ymm1, %ymm1
 	vmovdqu64	(%r14,%r9), %ymm16
+	prefetcht0	128(%r14,%r9)
 	vmovdqu64	32(%r14,%r9), %ymm21
 	vmovdqu64	(%r15,%r9), %ymm18
+	prefetcht0	128(%r15,%r9)
 	vmovdqu64	32(%r15,%r9), %ymm23
 	vpunpckldq	%ymm18, %ymm16, %ymm20
 	vpunpckhdq	%ymm18, %ymm16, %ymm16
 	vmovdqu64	(%r12,%r9), %ymm18
+	prefetcht0	128(%r12,%r9)
 	vmovdqu64	32(%r12,%r9), %ymm24
 	vmovdqu64	(%r8,%r9), %ymm22
+	prefetcht0	128(%r8,%r9)
 	vmovdqu64	32(%r8,%r9), %ymm25
 	vpunpckldq	%ymm22, %ymm18, %ymm26
 	vpunpckhdq	%ymm22, %ymm18, %ymm18

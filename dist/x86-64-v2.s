@@ -3925,11 +3925,13 @@
 	movq	24(%rdx), %rax
 	shlq	$10, %rax
 	movdqu	(%rsi,%rcx), %xmm11
+	prefetcht0	128(%rsi,%rcx)
 	movdqu	16(%rsi,%rcx), %xmm12
 	movups	32(%rsi,%rcx), %xmm14
 	movups	48(%rsi,%rcx), %xmm0
 	movaps	%xmm0, -80(%rsp)
 	movdqu	(%r11,%rcx), %xmm0
+	prefetcht0	128(%r11,%rcx)
 	movdqu	16(%r11,%rcx), %xmm6
 	movups	32(%r11,%rcx), %xmm3
 	movups	48(%r11,%rcx), %xmm1
@@ -3938,10 +3940,12 @@
 	movdqa	%xmm2, %xmm13
 	punpckhdq	%xmm0, %xmm11
 	movdqu	(%r10,%rcx), %xmm7
+	prefetcht0	128(%r10,%rcx)
 	movdqu	16(%r10,%rcx), %xmm5
 	movups	32(%r10,%rcx), %xmm2
 	movups	48(%r10,%rcx), %xmm0
 	movdqu	(%rax,%rcx), %xmm8
+	prefetcht0	128(%rax,%rcx)
 	movdqu	16(%rax,%rcx), %xmm9
 	movups	32(%rax,%rcx), %xmm4
 	movdqa	%xmm7, %xmm10

@@ -3363,26 +3363,34 @@
 	movq	56(%rdx), %rax
 	shlq	$10, %rax
 	vmovdqu	(%rsi,%rcx), %ymm2
+	prefetcht0	128(%rsi,%rcx)
 	vmovups	32(%rsi,%rcx), %ymm0
 	vmovdqu	(%rdi,%rcx), %ymm3
+	prefetcht0	128(%rdi,%rcx)
 	vmovups	32(%rdi,%rcx), %ymm1
 	vpunpckldq	%ymm3, %ymm2, %ymm7
 	vpunpckhdq	%ymm3, %ymm2, %ymm8
 	vmovdqu	(%r8,%rcx), %ymm4
+	prefetcht0	128(%r8,%rcx)
 	vmovups	32(%r8,%rcx), %ymm2
 	vmovdqu	(%r9,%rcx), %ymm5
+	prefetcht0	128(%r9,%rcx)
 	vmovups	32(%r9,%rcx), %ymm3
 	vpunpckldq	%ymm5, %ymm4, %ymm9
 	vpunpckhdq	%ymm5, %ymm4, %ymm10
 	vmovdqu	(%r10,%rcx), %ymm6
+	prefetcht0	128(%r10,%rcx)
 	vmovups	32(%r10,%rcx), %ymm4
 	vmovdqu	(%r11,%rcx), %ymm11
+	prefetcht0	128(%r11,%rcx)
 	vmovups	32(%r11,%rcx), %ymm5
 	vpunpckldq	%ymm11, %ymm6, %ymm12
 	vpunpckhdq	%ymm11, %ymm6, %ymm11
 	vmovdqu	(%r12,%rcx), %ymm13
+	prefetcht0	128(%r12,%rcx)
 	vmovups	32(%r12,%rcx), %ymm6
 	vmovdqu	(%rax,%rcx), %ymm14
+	prefetcht0	128(%rax,%rcx)
 	vpunpckldq	%ymm14, %ymm13, %ymm15
 	vpunpckhdq	%ymm14, %ymm13, %ymm13
 	vpunpcklqdq	%ymm9, %ymm7, %ymm14

@@ -4161,50 +4161,66 @@
 	movq	8(%rdx), %r10
 	shlq	$10, %rsi
 	vmovdqu64	(%rsi,%rcx), %zmm0
+	prefetcht0	128(%rsi,%rcx)
 	shlq	$10, %r10
 	vmovdqu64	(%r10,%rcx), %zmm1
+	prefetcht0	128(%r10,%rcx)
 	movq	16(%rdx), %rsi
 	shlq	$10, %rsi
 	vmovdqu64	(%rsi,%rcx), %zmm2
+	prefetcht0	128(%rsi,%rcx)
 	movq	24(%rdx), %rsi
 	shlq	$10, %rsi
 	vmovdqu64	(%rsi,%rcx), %zmm3
+	prefetcht0	128(%rsi,%rcx)
 	movq	32(%rdx), %rsi
 	shlq	$10, %rsi
 	vmovdqu64	(%rsi,%rcx), %zmm4
+	prefetcht0	128(%rsi,%rcx)
 	movq	40(%rdx), %rsi
 	shlq	$10, %rsi
 	vmovdqu64	(%rsi,%rcx), %zmm5
+	prefetcht0	128(%rsi,%rcx)
 	movq	48(%rdx), %rsi
 	shlq	$10, %rsi
 	vmovdqu64	(%rsi,%rcx), %zmm6
+	prefetcht0	128(%rsi,%rcx)
 	movq	56(%rdx), %rsi
 	shlq	$10, %rsi
 	vmovdqu64	(%rsi,%rcx), %zmm7
+	prefetcht0	128(%rsi,%rcx)
 	movq	64(%rdx), %rsi
 	shlq	$10, %rsi
 	vmovdqu64	(%rsi,%rcx), %zmm8
+	prefetcht0	128(%rsi,%rcx)
 	movq	72(%rdx), %rsi
 	shlq	$10, %rsi
 	vmovdqu64	(%rsi,%rcx), %zmm9
+	prefetcht0	128(%rsi,%rcx)
 	movq	80(%rdx), %rsi
 	shlq	$10, %rsi
 	vmovdqu64	(%rsi,%rcx), %zmm10
+	prefetcht0	128(%rsi,%rcx)
 	movq	88(%rdx), %rsi
 	shlq	$10, %rsi
 	vmovdqu64	(%rsi,%rcx), %zmm11
+	prefetcht0	128(%rsi,%rcx)
 	movq	96(%rdx), %rsi
 	shlq	$10, %rsi
 	vmovdqu64	(%rsi,%rcx), %zmm12
+	prefetcht0	128(%rsi,%rcx)
 	movq	104(%rdx), %rsi
 	shlq	$10, %rsi
 	vmovdqu64	(%rsi,%rcx), %zmm13
+	prefetcht0	128(%rsi,%rcx)
 	movq	112(%rdx), %rsi
 	shlq	$10, %rsi
 	vmovdqu64	(%rsi,%rcx), %zmm14
+	prefetcht0	128(%rsi,%rcx)
 	movq	120(%rdx), %rdx
 	shlq	$10, %rdx
 	vmovdqu64	(%rdx,%rcx), %zmm15
+	prefetcht0	128(%rdx,%rcx)
 	vpunpckldq	%zmm1, %zmm0, %zmm16
 	vpunpckhdq	%zmm1, %zmm0, %zmm0
 	vpunpckldq	%zmm3, %zmm2, %zmm1
@@ -7248,26 +7264,34 @@
 	movq	56(%rdx), %rdx
 	shlq	$10, %rdx
 	vmovdqu	(%rsi,%rcx), %ymm0
+	prefetcht0	128(%rsi,%rcx)
 	vmovdqu	32(%rsi,%rcx), %ymm3
 	vmovdqu	(%r10,%rcx), %ymm1
+	prefetcht0	128(%r10,%rcx)
 	vmovdqu	32(%r10,%rcx), %ymm4
 	vpunpckldq	%ymm1, %ymm0, %ymm2
 	vpunpckhdq	%ymm1, %ymm0, %ymm0
 	vmovdqu	(%r11,%rcx), %ymm1
+	prefetcht0	128(%r11,%rcx)
 	vmovdqu	32(%r11,%rcx), %ymm5
 	vmovdqu	(%rbx,%rcx), %ymm6
+	prefetcht0	128(%rbx,%rcx)
 	vmovdqu	32(%rbx,%rcx), %ymm9
 	vpunpckldq	%ymm6, %ymm1, %ymm7
 	vpunpckhdq	%ymm6, %ymm1, %ymm1
 	vmovdqu	(%r14,%rcx), %ymm6
+	prefetcht0	128(%r14,%rcx)
 	vmovdqu	32(%r14,%rcx), %ymm11
 	vmovdqu	(%r15,%rcx), %ymm8
+	prefetcht0	128(%r15,%rcx)
 	vmovdqu	32(%r15,%rcx), %ymm13
 	vpunpckldq	%ymm8, %ymm6, %ymm10
 	vpunpckhdq	%ymm8, %ymm6, %ymm6
 	vmovdqu	(%r12,%rcx), %ymm8
+	prefetcht0	128(%r12,%rcx)
 	vmovdqu	32(%r12,%rcx), %ymm14
 	vmovdqu	(%rdx,%rcx), %ymm12
+	prefetcht0	128(%rdx,%rcx)
 	vmovdqu	32(%rdx,%rcx), %ymm15
 	vpunpckldq	%ymm12, %ymm8, %ymm16
 	vpunpckhdq	%ymm12, %ymm8, %ymm8

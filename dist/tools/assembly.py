@@ -15,6 +15,7 @@ import windows
 from cut import KERNELS
 from levels import Level, Part, Program, parts, version
 from modules import kept_apart
+from prefetches import with_prefetches
 from proving import Fault, run, tool
 
 HEAD = """\
@@ -49,9 +50,9 @@ INDIRECT_JUMP = re.compile(r"(?m)^\tjmpq\t\*")
 OTHER_FRAME = re.compile(
     r"(?m)^\t(?!\.|cmpq\t|(?:add|sub|and)q\t\$-?\d+, %rsp$|leaq\t-?\d+\(%rbp\), %rsp$|movq\t%rbp, %rsp$).*[ \t]%rsp$"
     r"|^\txchg.*%rsp|^\tpush.*\n(?:\t\.cfi_.*\n)*\tret")
-#: What isn't among the instructions of the proved library: lines of tables, marks of targets of indirect jumps, and signatures of the
-#: addresses to return to.
-ADDED = re.compile(r"(?m)^\t(?:\.cfi_.*|endbr64|hint\t#(?:25|29|34|36))\n|(?<=^\t)notrack (?=jmpq)")
+#: What isn't among the instructions of the proved library: lines of tables, marks of targets of indirect jumps, signatures of the
+#: addresses to return to, and prefetches.
+ADDED = re.compile(r"(?m)^\t(?:\.cfi_.*|endbr64|prefetcht0\t.*|hint\t#(?:25|29|34|36))\n|(?<=^\t)notrack (?=jmpq)")
 
 
 def with_unwind_tables(text: str) -> str:
@@ -146,6 +147,8 @@ def finished(part: Level | Program, text: str, sources: str) -> str:
     exports = re.findall(r"(?m)^\t\.globl\t(.*)$", text)
     if not exports or not all(re.fullmatch(r"yurewha_\w+", name) for name in exports):
         raise Fault(f"the module exports {', '.join(exports) or 'nothing'}")
+    if part.has_kernels:
+        text = with_prefetches(text)
     if part.is_for_windows:
         text = windows.in_coff(in_file(part, text)) + (windows.PROBE_TEXT if part.is_whole else "")
     elif part.has_kernels:

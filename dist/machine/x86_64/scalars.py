@@ -26,8 +26,8 @@ _CONDITIONS: Dict[str, Tuple[str, Callable[[Dict[str, bool]], bool]]] = {
     "l": ("so", lambda f: f["s"] != f["o"]), "ge": ("so", lambda f: f["s"] == f["o"]),
     "le": ("zso", lambda f: f["z"] or f["s"] != f["o"]), "g": ("zso", lambda f: not f["z"] and f["s"] == f["o"]),
 }
-#: Instructions that do nothing.
-_NOTHING = ("nop", "nopw", "nopl", "endbr64")
+#: Instructions that change nothing. A prefetch has no address that would be a fault.
+_NOTHING = ("nop", "nopw", "nopl", "endbr64", "prefetcht0")
 
 
 def holds(m: "X86", condition: str) -> bool:
