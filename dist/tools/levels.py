@@ -22,6 +22,7 @@ TRANSLATED = "x86-64-v4"
 WINDOWS = "windows-"
 #: What the names of levels for macOS begin with. Their files are those for Linux in another form.
 MACOS = "macos-"
+#: The processors of Macs for which there are files: aarch64.s uses register x18, which is the system's on macOS.
 MACOS_PROCESSORS = ("x86_64",)
 #: The crate of the library, and those of the programs.
 LIBRARY = "yurewha_c"
