@@ -95,13 +95,15 @@ class BuildLibrary(build_ext):
             to.parent.mkdir(parents=True, exist_ok=True)
             shutil.copy(CHOSEN, to)
             return
-        system, _, processor = self.plat_name.partition("-")
+        # Python on Android may say that it is on Linux. There register x18, which aarch64.s uses, is the system's.
+        of_system = "android-" if hasattr(sys, "getandroidapilevel") else ""
+        system, _, processor = f"{of_system}{self.plat_name}".partition("-")
         folder = Path(self.build_temp, PACKED)
         copy_files(folder)
         if IS_MACOS:
             self.build_for_macos(folder, Path(self.get_ext_fullpath(extension.name)))
             return
-        extension.sources = sources(processor if system == "linux" else self.plat_name, folder)
+        extension.sources = sources(processor if system == "linux" else f"{of_system}{self.plat_name}", folder)
         extension.include_dirs = [str(folder)]
         if self.takes(PROTECTIONS[processor]):
             extension.extra_compile_args.append(PROTECTIONS[processor])

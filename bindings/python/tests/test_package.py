@@ -213,6 +213,19 @@ def test_there_is_nothing_to_compile_for_other_systems(tmp_path, system):
 
 
 @pytest.mark.skipif(not (PACKAGE.parent / "setup.py").exists(), reason="it needs the repository")
+def test_there_is_nothing_to_compile_for_android(tmp_path):
+    """Where Python says that it is on Linux, as in Termux."""
+    pytest.importorskip("setuptools")
+    words = ["setup.py", "-q", "bdist_wheel", "--dist-dir", str(tmp_path)]
+    as_android = f"import runpy, sys; sys.getandroidapilevel, sys.argv = int, {words!r}; runpy.run_path('setup.py', run_name='__main__')"
+    done = subprocess.run(
+        [sys.executable, "-c", as_android], cwd=PACKAGE.parent, capture_output=True, text=True, check=False,
+        env={**os.environ, "_PYTHON_HOST_PLATFORM": "linux-aarch64"})
+    assert done.returncode != 0 and not list(tmp_path.iterdir())
+    assert "yurewha: there is no library for android-linux-aarch64: " in done.stderr, done.stderr
+
+
+@pytest.mark.skipif(not (PACKAGE.parent / "setup.py").exists(), reason="it needs the repository")
 def test_an_installation_that_can_be_edited(tmp_path):
     """As `pip install -e` makes it, with the library in the folder of the package."""
     pytest.importorskip("setuptools.command.editable_wheel")
