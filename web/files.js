@@ -36,7 +36,7 @@ export class Files {
 
     constructor(report) {
         this.#report = report;
-        const hash = (files) => files.length > 0 && this.#begin({ kind: "chunks", files: [...files] });
+        const hash = (files) => files.length > 0 && this.#begin({ kind: "chunks", files: [...files], cuts: get("cuts").value });
         get("chunks-of").addEventListener("change", (event) => hash(event.target.files));
         const read = ([file]) => file && this.#begin({ kind: "pairs", file });
         get("pairs-of").addEventListener("change", (event) => read(event.target.files));

@@ -53,4 +53,5 @@ try {
         throw error;
     });
 }
+document.getElementById("loading").hidden = true;
 document.documentElement.dataset.ready = "";

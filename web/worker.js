@@ -16,7 +16,21 @@ async function hashOf(yurewha, file, passed) {
     return yurewha.hashStream(file.stream().pipeThrough(counted));
 }
 
-async function hashChunks(yurewha, files) {
+/** The chunks of a file, with a name for each: the whole file, or what stands between the cuts that a text says. */
+function piecesOf(file, text) {
+    const words = text.split(/[\s,;]+/).filter(Boolean);
+    if (words.length === 0) return [{ name: file.name, data: file }];
+    const cuts = words.map((word) => (/^[0-9]+$/.test(word) ? Number(word) : NaN));
+    const offsets = [...(cuts[0] === 0 ? [] : [0]), ...cuts, ...(cuts.at(-1) === file.size ? [] : [file.size])];
+    if (!offsets.every((offset, k) => k === 0 || offset > offsets[k - 1])) {
+        throw new Error(`the cuts must be whole numbers that rise, from 0 to the file's ${file.size} bytes`);
+    }
+    const ends = offsets.slice(1);
+    return ends.map((end, k) => ({ name: `${file.name} from ${offsets[k]}`, data: file.slice(offsets[k], end) }));
+}
+
+async function hashChunks(yurewha, files, cuts) {
+    if (cuts.trim() !== "" && files.length > 1) throw new Error("the cuts are those of one file: choose one, or leave the cuts empty");
     const total = files.reduce((sum, file) => sum + file.size, 0);
     const pairs = [];
     let done = 0;
@@ -27,10 +41,10 @@ async function hashChunks(yurewha, files) {
         told = done;
         postMessage({ kind: "progress", share: done / total });
     };
-    for (const file of files) {
-        const hash = await hashOf(yurewha, file, passed);
-        pairs.push([hash, file.size]);
-        postMessage({ kind: "chunk", name: file.name, size: file.size, hash: hash.hex() });
+    for (const { name, data } of files.flatMap((file) => piecesOf(file, cuts))) {
+        const hash = await hashOf(yurewha, data, passed);
+        pairs.push([hash, data.size]);
+        postMessage({ kind: "chunk", name, size: data.size, hash: hash.hex() });
     }
     return yurewha.Chunks.from(pairs);
 }
@@ -46,7 +60,7 @@ async function readPairs(yurewha, file) {
 addEventListener("message", async ({ data }) => {
     try {
         const yurewha = await loaded();
-        const chunks = data.kind === "chunks" ? await hashChunks(yurewha, data.files) : await readPairs(yurewha, data.file);
+        const chunks = data.kind === "chunks" ? await hashChunks(yurewha, data.files, data.cuts) : await readPairs(yurewha, data.file);
         const [root, file] = [yurewha.xorbHash(chunks), yurewha.fileHash(chunks)].map((hash) => hash.hex());
         postMessage({ kind: "roots", count: chunks.length, root, file });
     } catch (error) {

@@ -10,6 +10,7 @@ import zipfile
 from typing import Collection, Dict, Iterator, List, Optional, Sequence, Set, Tuple, Union
 
 import yurewha as y
+from yurewha import types
 
 # Hashing bytes.
 data: Union[bytes, bytearray] = bytearray(b"abc")
@@ -204,3 +205,12 @@ all_chunks: y.Chunks = hash_tree.chunks
 index: y.HashIndex = y.HashIndex([root, bytes(32)])
 are_known: List[bool] = index.contains(many)
 fresh: int = index.add_all(many) + index.add(root) + len(index) + len(index.new(many)) + len(many[are_known])
+
+
+# Public names of types.
+def name_of(chunks: types.ChunksLike, data: types.BytesLike, hash_: types.HashLike, sizes: types.SizesLike, hashes: types.HashesLike) -> y.Hash:
+    pair: types.Chunk = (y.data_hash(data), 1)
+    return y.file_hash(y.Chunks.from_columns(hashes, sizes) + y.Chunks([pair]) + y.Chunks([(hash_, 1)]) + y.Chunks(chunks))
+
+
+name_of([(y.Hash(), 1)], b"abc", bytes(32), [1], [y.Hash()])

@@ -69,8 +69,8 @@ def test_numpy():
     numpy = pytest.importorskip("numpy")
     chunks = y.Chunks(PAIRS)
     seen = numpy.asarray(chunks)
-    assert seen.shape == (50,) and seen.dtype.names == ("words", "size") and not seen.flags.writeable
-    assert [tuple(int(word) for word in words) for words in seen["words"]] == [h.words for h, _ in PAIRS]
+    assert seen.shape == (50,) and seen.dtype.names == ("hash", "size") and not seen.flags.writeable
+    assert [tuple(int(word) for word in words) for words in seen["hash"]] == [h.words for h, _ in PAIRS]
     assert [int(size) for size in seen["size"]] == [size for _, size in PAIRS]
     assert chunks.__array_interface__["version"] == chunks.hashes.__array_interface__["version"] == 3  # which NumPy ignores
     words = numpy.frombuffer(PACKED, dtype="<u8")
@@ -86,8 +86,8 @@ def test_numpy():
     assert list(y.Chunks(words.reshape(50, 5)[10:20])) == PAIRS[10:20]
     for wrong in (
         words.astype(">u8"), words.astype("<f8"), words.reshape(25, 10), words.reshape(5, 50), words[1:],
-        words.astype("i8"), seen.astype([("words", "<u8", (4,)), ("size", "<f8")]),
-        seen.astype([("words", ">u8", (4,)), ("size", "<u8")]), seen["words"], seen["size"][:7],
+        words.astype("i8"), seen.astype([("hash", "<u8", (4,)), ("size", "<f8")]),
+        seen.astype([("hash", ">u8", (4,)), ("size", "<u8")]), seen["hash"], seen["size"][:7],
         numpy.zeros(40, dtype="O"), numpy.zeros(5, dtype="M8[s]"), numpy.zeros((5, 8), dtype="c16"),
     ):
         with pytest.raises((y.InvalidArguments, TypeError)):

@@ -42,7 +42,7 @@ def test_columns_of_numpy():
     sizes = numpy.array(SIZES, dtype="<u8")
     for hashes in (words, plain, words.copy(), numpy.asfortranarray(words), plain.T.copy().T, plain[:, :],
                    numpy.frombuffer(RAW, dtype="V32"), numpy.frombuffer(RAW, dtype="S32"), words.reshape(-1),
-                   numpy.asarray(CHUNKS)["words"], numpy.array([h.bytes for h in HASHES], dtype=object)):
+                   numpy.asarray(CHUNKS)["hash"], numpy.array([h.bytes for h in HASHES], dtype=object)):
         for column in (sizes, sizes.astype("i8"), numpy.asarray(CHUNKS)["size"], sizes.astype(object)):
             assert y.Chunks.from_columns(hashes, column) == CHUNKS
     assert y.Chunks.from_columns(words[::-2], sizes[::-2]) == CHUNKS[::-2]

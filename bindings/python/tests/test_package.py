@@ -331,3 +331,11 @@ def test_the_help_lists_each_public_call():
         members = vars(getattr(y, name)) if inspect.isclass(getattr(y, name)) else {}
         for member in members:
             assert member.startswith("_") or re.search(rf"^     \|  {member}\b", text, flags=re.M), f"{name}.{member}"
+
+
+def test_public_names_of_types():
+    from yurewha import _chunks, _hash, _hashes, _types, types
+
+    assert types.__all__ == ["BytesLike", "Chunk", "ChunksLike", "HashLike", "HashesLike", "SizesLike"]
+    homes = [_types, _chunks, _chunks, _hash, _hashes, _chunks]
+    assert all(getattr(types, name) is getattr(home, name) for name, home in zip(types.__all__, homes))

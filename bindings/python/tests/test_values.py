@@ -32,6 +32,12 @@ def counts(tree):
     return list(tree.levels)
 
 
+def test_numbers_have_their_nouns():
+    assert repr(y.HashTree([(y.Hash.random_from_seed(1), 1)])) == "<yurewha.HashTree of 1 chunk, 1 byte>"
+    assert repr(y.HashTree([(y.Hash.random_from_seed(1), 0), (y.Hash.random_from_seed(1), 2)])) == "<yurewha.HashTree of 2 chunks, 2 bytes>"
+    assert repr(y.Hasher()).endswith(", 0 bytes>") and repr(y.Subtree.from_chunks(True, [], True)).endswith(", 0 bytes>")
+
+
 def test_the_reference_lists():
     assert len(REFERENCE) == 13
     for numbers, xorb, file, salted in REFERENCE:
@@ -105,7 +111,7 @@ def test_stable_points():
 @pytest.mark.parametrize("count, shown", [(8, 7 * ["(0, 0)"]), (9, 4 * ["(0, 0)"] + [".."] + 3 * ["(0, 0)"])])
 def test_a_subtree_shows_eight_levels_or_the_ends_of_more(count, shown):
     tree = y.Subtree.from_flat(True, (count - 1) * [(0, 0)] + [(1, 0)], [(Z, 1)], True)
-    assert repr(tree) == f"<yurewha.Subtree at the start and at the end, levels {' '.join(shown)} (1, 0), 1 bytes>"
+    assert repr(tree) == f"<yurewha.Subtree at the start and at the end, levels {' '.join(shown)} (1, 0), 1 byte>"
 
 
 def test_merging():
@@ -249,7 +255,7 @@ def test_what_can_change_is_copied(copied):
 def test_a_copy_of_a_hasher_has_its_key_and_name(make, name):
     one = make(b"a")
     for other in (one, one.copy(), copy.copy(one), copy.deepcopy(one), one.copy().copy()):
-        assert other.name == name and repr(other) == f"<yurewha.Hasher {name}, 1 bytes>"
+        assert other.name == name and repr(other) == f"<yurewha.Hasher {name}, 1 byte>"
         assert other.hash() == make(b"a").hash() and other.count == 1
 
 

@@ -132,7 +132,7 @@ class Chunks(Packed[Chunk]):
     fields raise `InvalidArguments`.
 
     The list is immutable. A block that others may change is copied once. So a million chunks go to the library in one call,
-    without a million objects. `numpy.asarray(chunks)` is an array with the fields `words` and `size`.
+    without a million objects. `numpy.asarray(chunks)` is an array with the fields `hash` and `size`, which `Chunks` takes back.
 
     >>> chunks = Chunks([(Hash.random_from_seed(1), 100), (Hash.random_from_seed(2), 200)])
     >>> len(chunks), chunks[1][1], len(chunks.packed)
@@ -225,7 +225,7 @@ class Chunks(Packed[Chunk]):
             "version": 3,
             "shape": (len(self),),
             "typestr": f"|V{_SIZE}",
-            "descr": [("words", "<u8", (4,)), ("size", "<u8")],
+            "descr": [("hash", "<u8", (4,)), ("size", "<u8")],
             "data": self._packed,
         }
 

@@ -48,6 +48,15 @@ def status_text(status: int) -> str:
     return text.raw[:length.value].decode("ascii")
 
 
+def counted(count: int, noun: str) -> str:
+    """A number with its noun, which has an s unless there is one.
+
+    >>> counted(1, "byte"), counted(0, "byte")
+    ('1 byte', '0 bytes')
+    """
+    return f"{count} {noun}{'' if count == 1 else 's'}"
+
+
 def but_got(rule: str, got: object) -> str:
     """Returns the text of an error: what must be so, and what came instead. A long number is told by its bits.
 

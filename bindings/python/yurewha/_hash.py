@@ -8,7 +8,7 @@ from typing import TYPE_CHECKING, Callable, NoReturn, SupportsIndex, Tuple, Type
 
 from ._calls import memmove
 from ._declarations import LENGTHS
-from ._errors import DivisionByZero, InvalidArguments, InvalidText, ReentrantCall, YurewhaError, but_got, error_of, told_text, told_type
+from ._errors import DivisionByZero, InvalidArguments, InvalidText, ReentrantCall, YurewhaError, but_got, counted, error_of, told_text, told_type
 from ._guard import Guarded
 from ._lent import Lent, bytes_of, checked_view, in_place, is_read_only, view_of_bytes
 from ._library import LONG_BYTES, CBytes, CHash, CHasher, calls_for, short
@@ -626,6 +626,6 @@ class Hasher(Guarded):
 
     def __repr__(self) -> str:
         try:
-            return f"<yurewha.Hasher {self._name}, {self.count} bytes>"
+            return f"<yurewha.Hasher {self._name}, {counted(self.count, 'byte')}>"
         except YurewhaError:
             return "<yurewha.Hasher that can't be read>"

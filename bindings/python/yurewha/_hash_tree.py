@@ -6,7 +6,7 @@ import ctypes
 from typing import Optional, Tuple, Type, final
 
 from ._chunks import Chunks, ChunksLike
-from ._errors import YurewhaError, error_of
+from ._errors import YurewhaError, counted, error_of
 from ._guard import Guarded
 from ._hash import Hash, checked_32, checked_u64
 from ._interrupts import MANY_NODES, interruptible
@@ -265,7 +265,7 @@ class HashTree(Guarded):
 
     def __repr__(self) -> str:
         try:
-            return f"<yurewha.HashTree of {self.num_chunks} chunks, {self.total_size} bytes>"
+            return f"<yurewha.HashTree of {counted(self.num_chunks, 'chunk')}, {counted(self.total_size, 'byte')}>"
         except YurewhaError:
             return "<yurewha.HashTree that can't be read>"
 

@@ -23,7 +23,7 @@ from typing import (
 from ._calls import string_at
 from ._chunks import Chunks, ChunksLike
 from ._declarations import STATUSES
-from ._errors import InvalidArguments, InvalidLists, YurewhaError, but_got, error_of
+from ._errors import InvalidArguments, InvalidLists, YurewhaError, but_got, counted, error_of
 from ._guard import Guarded, all_locked, both_locked
 from ._hash import Hash, checked_32, checked_bool, checked_text, checked_u64, own_bytes
 from ._interrupts import MANY_BYTES, MANY_NODES, interruptible
@@ -647,7 +647,7 @@ class Subtree(Guarded):
         shown = [str(level) for level in flat.levels]
         if len(shown) > 8:
             shown[4:-4] = [".."]
-        return f"<yurewha.Subtree {ends}, levels {' '.join(shown)}, {self.total_size} bytes>"
+        return f"<yurewha.Subtree {ends}, levels {' '.join(shown)}, {counted(self.total_size, 'byte')}>"
 
     # ---- Pictures
 

@@ -382,6 +382,42 @@ test("whatever gives pieces is hashed, and ended at a piece that is none", async
     for (const source of [null, undefined, 5, {}, "text", new Uint8Array(3)]) await assert.rejects(y.hashStream(source), TypeError);
 });
 
+test("the chunks of a file, of a stream and of other pieces have their hashes, wherever the pieces end", async () => {
+    const data = bytesOf(300_000);
+    for (const offsets of [[0, 300_000], [0, 0, 1, 1, 70_000, 200_000, 300_000], [5, 5, 9, 131_072, 131_073, 299_999], [7], [0], [300_000, 300_000]]) {
+        const wanted = y.dataHashes(data, offsets).map(String);
+        for (const length of [1, 997, 65_536, 300_000]) {
+            if (length === 1 && offsets.at(-1) > 9) continue;
+            const pieces = Array.from({ length: Math.ceil(300_000 / length) }, (_, k) => data.subarray(k * length, (k + 1) * length));
+            for (const source of [pieces, ReadableStream.from(pieces)]) {
+                assert.deepEqual((await y.hashChunks(source, offsets)).map(String), wanted, `${offsets} in pieces of ${length}`);
+            }
+        }
+        assert.deepEqual((await y.hashChunks(new Blob([data]), offsets.map(BigInt))).map(String), wanted);
+    }
+});
+
+test("chunks of a stream need all of their bytes, no more of it is read, and pieces are bytes", async () => {
+    let [given, cancelled] = [0, 0];
+    const stream = () => new ReadableStream({
+        pull: (controller) => controller.enqueue(new Uint8Array(10 + 0 * given++)),
+        cancel: () => void cancelled++,
+    }, { highWaterMark: 0 });
+    assert.equal((await y.hashChunks(stream(), [5, 20, 25])).length, 2);
+    assert.deepEqual([given, cancelled], [3, 1]);
+    const wrong = stream();
+    await assert.rejects(y.hashChunks(wrong, [3, 2]), { name: "InvalidArguments" });
+    assert.equal(wrong.locked, false);
+    const few = [new Uint8Array(10)];
+    for (const source of [few, ReadableStream.from(few), new Blob(few)]) {
+        await assert.rejects(y.hashChunks(source, [0, 5, 11]), { name: "InvalidArguments" });
+    }
+    await assert.rejects(y.hashChunks(few, []), { name: "InvalidArguments" });
+    for (const source of [["text"], ReadableStream.from([5]), null, 5]) await assert.rejects(y.hashChunks(source, [0, 1]), TypeError);
+    const failing = new ReadableStream({ pull: (controller) => controller.error(new Error("lost")) });
+    await assert.rejects(y.hashChunks(failing, [0, 1]), new Error("lost"));
+});
+
 test("short pieces of a stream go to the module in long ones, in their order", async () => {
     const lengths = [];
     const { yurewha: it } = await wrapped(BYTES, (exports) => ({

@@ -83,6 +83,7 @@ async function* given(): AsyncGenerator<Uint8Array> {
 }
 const streamed: Hash[] = [
     await y.hashStream(new Blob([data]).stream()), await y.hashStream(given()), await y.hashStream([data]), ...y.dataHashes(data, [0, 7n]),
+    ...(await y.hashChunks(new Blob([data]), [0, 7n])), ...(await y.hashChunks([data], new Set([0, 7]))),
 ];
 const root: Hash = y.xorbHash(chunks);
 const inner: Hash = y.internalNodeHash(data);

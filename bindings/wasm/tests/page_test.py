@@ -173,6 +173,19 @@ def hash_files(browser: Browser, folder: Path, photo: Callable[[str], None]) -> 
     browser.run(drop)
     wait(browser, "document.getElementById('hashed').rows.length === 1 && !document.getElementById('files-roots').hidden")
     same(text(browser, "files-root"), m.to_hex(m.compute_data_hash(b"a chunk")))
+    data, cuts = datas["long.bin"], [0, 10_000, 10_001, 30_000]
+    nodes = [(m.compute_data_hash(data[begin:end]), end - begin) for begin, end in zip(cuts, cuts[1:])]
+    browser.run("document.getElementById('cuts').value = '10000, 10001'")
+    browser.run(drop.replace('"a chunk"', "Uint8Array.from({ length: 30000 }, (_, k) => k % 251)"))
+    wait(browser, "document.getElementById('files-count').textContent === '3' && !document.getElementById('files-roots').hidden")
+    same([text(browser, "files-root"), text(browser, "files-hash")], [m.to_hex(m.root(nodes)), m.to_hex(m.file_root(nodes))])
+    photo("cuts")
+    for wrong in ("3, 2", "30001", "1.5", "x"):
+        browser.run("document.getElementById('error').hidden = true; document.getElementById('cuts').value = arguments[0]", wrong)
+        browser.run(drop)
+        wait(browser, "!document.getElementById('error').hidden")
+        same(text(browser, "error").startswith("The cuts must be whole numbers that rise"), True)
+    browser.run("document.getElementById('error').hidden = true; document.getElementById('cuts').value = ''")
     (folder / "pairs.txt").write_text("".join(f"{m.to_hex(hash_)} {size}\n" for hash_, size in drawn(1, 200)))
     browser.type("#pairs-of", str(folder / "pairs.txt"))
     wait(browser, "document.getElementById('files-count').textContent === '200'")
@@ -269,7 +282,8 @@ def whole(kind: Callable[[int, bool], Browser], url: str, width: int, dark: bool
     try:
         browser.open(url)
         wait(browser, "'ready' in document.documentElement.dataset")
-        same(browser.run("return document.getElementById('error').hidden"), True)
+        same(browser.run("return document.getElementById('error').hidden && document.getElementById('loading').hidden"), True)
+        same(browser.run("return document.title").startswith("Yurewha"), True)
         photo("opened")
         merge_in_each_order(browser, photo)
         use_the_keyboard(browser)

@@ -111,6 +111,56 @@ class Gathered {
     }
 }
 
+/** The chunks between places in a message that comes in pieces. */
+class Chunked {
+    hashes = [];
+    /** How many bytes of the message came. */
+    at;
+    #places;
+    #begin;
+    #message;
+
+    constructor(places, begin, at) {
+        this.#places = places;
+        this.#begin = begin;
+        this.#message = begin();
+        this.at = at;
+        this.#end();
+    }
+
+    add(given) {
+        let piece = bytes(given, "a piece of data");
+        while (piece.length > 0 && this.at < this.#places.at(-1)) {
+            const isBefore = this.at < this.#places[0];
+            const end = isBefore ? this.#places[0] : this.#places[this.hashes.length + 1];
+            const part = piece.subarray(0, end - this.at);
+            if (!isBefore) this.#message.add(part);
+            this.at += part.length;
+            piece = piece.subarray(part.length);
+            this.#end();
+        }
+    }
+
+    /** Ends each chunk whose last byte came, also empty ones. */
+    #end() {
+        while (this.at >= this.#places[0] && this.#places[this.hashes.length + 1] === this.at) {
+            this.hashes.push(this.#message.digest());
+            this.#message = this.#begin();
+        }
+    }
+}
+
+/** The pieces of a stream, which is cancelled if it isn't read to its end. */
+async function* piecesOf(stream) {
+    const reader = stream.getReader();
+    try {
+        for (let it = await reader.read(); !it.done; it = await reader.read()) yield it.value;
+    } finally {
+        await reader.cancel();
+        reader.releaseLock();
+    }
+}
+
 /** Offsets in a message of some length, as Numbers, none of which is less than the one before it. */
 function checkedOffsets(offsets, length) {
     if (offsets.length === 0) throw new InvalidArguments(mustBe("the number of offsets", "be at least 1", 0));
@@ -165,6 +215,21 @@ export function makeHashing(library, hashes) {
         return message.digest();
     }
 
+    async function hashChunks(source, offsets) {
+        const listed = [...offsets].map((offset, k) => u64(offset, `offset ${k}`));
+        const isBlob = source instanceof Blob;
+        const places = checkedOffsets(listed, isBlob ? source.size : Number.MAX_SAFE_INTEGER);
+        const [first, last] = [places[0], places.at(-1)];
+        const chunks = new Chunked(places, () => new Gathered(new Hasher()), isBlob ? first : 0);
+        const pieces = isBlob ? piecesOf(source.slice(first, last).stream()) : typeof source?.getReader === "function" ? piecesOf(source) : source;
+        for await (const piece of pieces) {
+            chunks.add(piece);
+            if (chunks.at >= last) break;
+        }
+        if (chunks.at < last) throw new InvalidArguments(mustBe("the number of bytes", `be at least the last offset, ${last}`, chunks.at));
+        return chunks.hashes;
+    }
+
     const internalNodeHash = whole("yurewha_internal_node_hash", () => Hasher.internalNode());
-    return { Hasher, dataHash, dataHashes, hashStream, internalNodeHash };
+    return { Hasher, dataHash, dataHashes, hashChunks, hashStream, internalNodeHash };
 }

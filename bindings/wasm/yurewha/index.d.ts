@@ -98,6 +98,21 @@ export interface Yurewha {
      */
     dataHashes(data: Data, offsets: Iterable<U64>): Hash[];
 
+    /** Returns the hash of each chunk of a file or of what gives pieces, as `hashStream` takes them: chunk k begins at offset k and ends
+     * at the next one. Of a `Blob` or `File`, only the bytes between the first and the last offset are read. Of a stream, bytes
+     * before the first are skipped, and it is cancelled after the last. Nothing is held but a piece.
+     * @throws InvalidArguments there is no offset, an offset is less than the one before it, or the data ends before the last
+     *
+     * @example
+     * ```js
+     * const [first, second] = await y.hashChunks(new Blob(["a chunk", "another"]), [0, 7, 14]);
+     * console.log(first.hex()); // fc2d9e764137e94a0c4d7bdc0b584e73a34945fbf4efeef155acc8927c1399ff
+     * ```
+     */
+    hashChunks(
+        source: Blob | ReadableStream<Uint8Array> | AsyncIterable<Uint8Array> | Iterable<Uint8Array>, offsets: Iterable<U64>,
+    ): Promise<Hash[]>;
+
     /** Returns the hash of a chunk whose data comes in pieces, from a stream, such as that of a `Blob` or of Node, or from any other
      * iterable. It is the same as that of `dataHash`. A piece that isn't a `Uint8Array` is a `TypeError`; the stream is then
      * cancelled. Short pieces are gathered, so that many of them take hardly longer than a few long ones.
