@@ -758,7 +758,7 @@ test("each declared name is there, and each that is there is declared", () => {
 test("the examples of the declarations print what they say", async () => {
     const declared = readFileSync(new URL("bindings/wasm/yurewha/index.d.ts", ROOT), "utf8");
     const examples = [...declared.matchAll(/^ *\* ```js\n([^]*?)^ *\* ```$/gm)].map(([, lines]) => lines.replace(/^ *\* ?/gm, ""));
-    assert.equal(examples.length, 18);
+    assert.equal(examples.length, 19);
     for (const example of examples) {
         const printed = [];
         const run = new (async () => {}).constructor("y", "load", "console", example);
