@@ -83,7 +83,6 @@ async function* given(): AsyncGenerator<Uint8Array> {
 }
 const streamed: Hash[] = [
     await y.hashStream(new Blob([data]).stream()), await y.hashStream(given()), await y.hashStream([data]), ...y.dataHashes(data, [0, 7n]),
-    ...(await y.hashChunks(new Blob([data]), [0, 7n])), ...(await y.hashChunks([data], new Set([0, 7]))),
 ];
 const root: Hash = y.xorbHash(chunks);
 const inner: Hash = y.internalNodeHash(data);
@@ -510,7 +509,7 @@ const blobbed = `${remote.size} ${remote.start} ${remote.type} ${remotePart.type
     inParts[1] === "a chunk" && inParts[2].length === 1 && (await y.hashStream(pieces)).equals(hash) && remote.fileHash.equals(y.fileHash(pairs)) &&
     sure[0] === 0n && sure[1].length === 2 && buffers.every((it) => y.dataHash(it).equals(hash) && hasher.clone().update(it).count === 14n);
 const same = final !== null && final.equals(root) && restored.root(2).equals(root) && session.root(2).equals(root) && files[0]!.equals(session.finish(2));
-const hashed = order === 0 && streamed.length === 6 && streamed.every((it) => it.equals(hash)) && counts[1].equals(hash) && counts[0] === 7n;
+const hashed = order === 0 && streamed.length === 4 && streamed.every((it) => it.equals(hash)) && counts[1].equals(hash) && counts[0] === 7n;
 const salted = file !== null && file.equals(files[1]!) && file.equals(session.finish(2, new Uint8Array(32)));
 const listed = copies.every((it) => y.xorbHash(it).equals(root)) && last?.[1] === 200n && nodes.length === 1 && gaps.length === 1;
 const proven = `${place} ${after} ${bytesOf}` === "0 1 0,7" && `${sides[0].length} ${sides[1].length} ${sides[2]}` === "0 1 1" &&
