@@ -348,6 +348,18 @@ static uint64_t call_session_known_hashes(const struct argument *a)
     return yurewha_session_known_hashes((yurewha_session *)a[0].data, (yurewha_hash *)a[1].data, a[1].count);
 }
 
+static uint64_t call_session_to_json(const struct argument *a)
+{
+    return yurewha_session_to_json((yurewha_session *)a[0].data, a[1].number != 0, (char *)a[2].data, a[2].count,
+        (size_t *)a[3].data);
+}
+
+static uint64_t call_session_from_json(const struct argument *a)
+{
+    return yurewha_session_from_json((const char *)a[0].data, a[0].count, a[1].number != 0,
+        (yurewha_session *)a[2].data);
+}
+
 static uint64_t call_hash_tree_from_chunks(const struct argument *a)
 {
     return yurewha_hash_tree_from_chunks((const yurewha_chunk *)a[0].data, a[0].count, (yurewha_hash_tree *)a[1].data);
@@ -408,6 +420,18 @@ static uint64_t call_range_proof_to_json(const struct argument *a)
 static uint64_t call_range_proof_from_json(const struct argument *a)
 {
     return yurewha_range_proof_from_json((const char *)a[0].data, a[0].count, (yurewha_level *)a[1].data, a[1].count,
+        (yurewha_chunk *)a[2].data, a[2].count, (size_t *)a[3].data, (size_t *)a[4].data);
+}
+
+static uint64_t call_range_proof_to_bytes(const struct argument *a)
+{
+    return yurewha_range_proof_to_bytes((const yurewha_level *)a[0].data, a[0].count, (const yurewha_chunk *)a[1].data,
+        a[1].count, (uint8_t *)a[2].data, a[2].count, (size_t *)a[3].data);
+}
+
+static uint64_t call_range_proof_from_bytes(const struct argument *a)
+{
+    return yurewha_range_proof_from_bytes((const char *)a[0].data, a[0].count, (yurewha_level *)a[1].data, a[1].count,
         (yurewha_chunk *)a[2].data, a[2].count, (size_t *)a[3].data, (size_t *)a[4].data);
 }
 
@@ -539,6 +563,9 @@ const struct call calls[] = {
     {"session_keeps_hashes", call_session_keeps_hashes, STATUS, false, 2, {{READ, SESSION}, {OUT, TRUTH}}},
     {"session_num_known_hashes", call_session_num_known_hashes, STATUS, false, 2, {{READ, SESSION}, {OUT, NUMBER}}},
     {"session_known_hashes", call_session_known_hashes, STATUS, true, 2, {{READ, SESSION}, {EXACT, HASH}}},
+    {"session_to_json", call_session_to_json, STATUS, true, 4, {{READ, SESSION}, {GIVEN, TRUTH}, {ROOM, BYTE},
+        {NEEDED, NUMBER}}},
+    {"session_from_json", call_session_from_json, STATUS, true, 3, {{LIST, BYTE}, {GIVEN, TRUTH}, {MADE, SESSION}}},
     {"hash_tree_from_chunks", call_hash_tree_from_chunks, STATUS, true, 2, {{LIST, CHUNK}, {MADE, HASH_TREE}}},
     {"hash_tree_root", call_hash_tree_root, STATUS, false, 2, {{READ, HASH_TREE}, {OUT, HASH}}},
     {"hash_tree_file_hash", call_hash_tree_file_hash, STATUS, false, 3, {{READ, HASH_TREE}, {GIVEN, KEY}, {OUT, HASH}}},
@@ -555,6 +582,10 @@ const struct call calls[] = {
         {NEEDED, NUMBER}}},
     {"range_proof_from_json", call_range_proof_from_json, STATUS, true, 5, {{LIST, BYTE}, {ROOM, LEVEL}, {ROOM, CHUNK},
         {NEEDED, NUMBER}, {NEEDED, NUMBER}}},
+    {"range_proof_to_bytes", call_range_proof_to_bytes, STATUS, true, 4, {{LIST, LEVEL}, {LIST, CHUNK}, {ROOM, BYTE},
+        {NEEDED, NUMBER}}},
+    {"range_proof_from_bytes", call_range_proof_from_bytes, STATUS, true, 5, {{LIST, BYTE}, {ROOM, LEVEL},
+        {ROOM, CHUNK}, {NEEDED, NUMBER}, {NEEDED, NUMBER}}},
     {"range_proof_check", call_range_proof_check, STATUS, false, 2, {{LIST, LEVEL}, {LIST, CHUNK}}},
     {"range_proof_open", call_range_proof_open, STATUS, true, 5, {{LIST, LEVEL}, {LIST, CHUNK}, {GIVEN, HASH},
         {GIVEN, KEY}, {MADE, OPENED_RANGE}}},
@@ -583,6 +614,7 @@ const struct named_status statuses[] = {
     {"MISMATCH", YUREWHA_MISMATCH},
     {"RULE", YUREWHA_RULE},
     {"PROOF_RULE", YUREWHA_PROOF_RULE},
+    {"SESSION_RULE", YUREWHA_SESSION_RULE},
     {"SESSION_OVERLAP", YUREWHA_SESSION_OVERLAP},
     {"SESSION_POSITIONS", YUREWHA_SESSION_POSITIONS},
     {"SESSION_GAP", YUREWHA_SESSION_GAP},

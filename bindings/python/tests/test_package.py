@@ -88,7 +88,8 @@ def test_the_structs_are_those_of_the_header(tmp_path):
     members = {
         "yurewha_hash": ["words"], "yurewha_bytes": ["bytes"], "yurewha_chunk": ["hash", "size"],
         "yurewha_level": ["left", "right"], "yurewha_hasher": ["state"], "yurewha_subtree": ["at"],
-        "yurewha_session": ["at"], "yurewha_hash_tree": ["at"], "yurewha_opened_range": ["at"],
+        "yurewha_session": ["at"], "yurewha_hash_tree": ["at"], "yurewha_opened_range": ["at"], "yurewha_reader": ["at"],
+        "yurewha_part": ["at"],
     }
     expected = []
     for name, size in _declarations.STRUCTS.items():
@@ -108,10 +109,13 @@ def test_the_structs_are_those_of_the_header(tmp_path):
     assert told.split("\n")[:-1] == expected
 
 
+#: Calls that save other languages a step: a file's `prove` returns a proof that was read, and it has no limit of its size.
+UNUSED = ["yurewha_part_open_json", "yurewha_part_file_size"]
+
+
 def test_each_call_of_the_library_is_used():
     text = "".join(path.read_text(encoding="utf-8") for path in PACKAGE.glob("*.py") if path.name != "_declarations.py")
-    unused = [name for name in _declarations.DECLARATIONS if not re.search(rf"\b{name}\b", text)]
-    assert unused == []
+    assert [name for name in _declarations.DECLARATIONS if not re.search(rf"\b{name}\b", text)] == UNUSED
 
 
 def test_nothing_but_the_standard_library():

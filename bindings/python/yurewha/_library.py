@@ -80,6 +80,14 @@ class COpenedRange(ctypes.Structure):
     _fields_ = _fields("yurewha_opened_range")
 
 
+class CReader(ctypes.Structure):
+    _fields_ = _fields("yurewha_reader")
+
+
+class CPart(ctypes.Structure):
+    _fields_ = _fields("yurewha_part")
+
+
 #: The structs by their names in the header.
 STRUCT_TYPES: Dict[str, Any] = {
     "yurewha_hash": CHash,
@@ -91,6 +99,8 @@ STRUCT_TYPES: Dict[str, Any] = {
     "yurewha_session": CSession,
     "yurewha_hash_tree": CHashTree,
     "yurewha_opened_range": COpenedRange,
+    "yurewha_reader": CReader,
+    "yurewha_part": CPart,
 }
 
 #: The ctypes type for each type of the header. If a call only reads bytes, a hash, a key or chunks, it gets a Python `bytes`
