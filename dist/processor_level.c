@@ -16,10 +16,6 @@
 #error "yurewha is for x86-64 and little-endian aarch64, with pointers of 8 bytes: there is no library for this processor"
 #endif
 
-#ifdef __APPLE__
-#error "yurewha is for Linux and Windows: there is no library for macOS, where a Linux container runs it"
-#endif
-
 #ifdef __aarch64__
 
 const char *yurewha_processor_level(void)
@@ -34,6 +30,9 @@ const char *yurewha_processor_level(void)
 #include <stdio.h>
 #include <stdlib.h>
 #include <string.h>
+#ifdef __APPLE__
+#include <sys/sysctl.h>
+#endif
 
 /*
  * The kernels of a level: the functions for which the level matters. Each file of assembly has a table of where its own are.
@@ -78,6 +77,18 @@ static bool saves(unsigned registers)
     return has_all(low, registers);
 }
 
+static bool saves_avx512(void)
+{
+#ifdef __APPLE__
+    /* macOS saves these registers from a thread's first use of them on, and XCR0 doesn't show them before. It says itself if it does. */
+    int is_on = 0;
+    size_t size = sizeof is_on;
+    return sysctlbyname("hw.optional.avx512f", &is_on, &size, NULL, 0) == 0 && is_on != 0;
+#else
+    return saves(SAVES_AVX512);
+#endif
+}
+
 static bool is_x86_64_v3(void)
 {
     unsigned eax, ebx, ecx, edx;
@@ -90,7 +101,7 @@ static bool is_x86_64_v3(void)
 static bool is_x86_64_v4(void)
 {
     unsigned eax, ebx, ecx, edx;
-    return is_x86_64_v3() && saves(SAVES_AVX512) && __get_cpuid_count(7, 0, &eax, &ebx, &ecx, &edx) &&
+    return is_x86_64_v3() && saves_avx512() && __get_cpuid_count(7, 0, &eax, &ebx, &ecx, &edx) &&
            has_all(ebx, bit_AVX512F | bit_AVX512DQ | bit_AVX512CD | bit_AVX512BW | bit_AVX512VL);
 }
 
@@ -142,7 +153,10 @@ static const struct level *level(void)
     return found != NULL ? found : choose();
 }
 
-/* Before the constructors of those who use the library, and while there is one thread, so that the environment can be read. */
+/*
+ * Before the constructors of those who use the library, and while there is one thread, so that the environment can be read. Mach-O has
+ * no such order: there constructors run as the objects were linked, and a shared library's before those of its users.
+ */
 __attribute__((constructor(101))) static void choose_early(void)
 {
     (void)level();

@@ -3,9 +3,12 @@
  *
  *     -Wl,--wrap=malloc,--wrap=realloc,--wrap=free
  *
- * for all that is linked into the program: so for libyurewha.a, and not for libyurewha.so. Each thread counts for itself.
+ * for all that is linked into the program: so for libyurewha.a, and not for libyurewha.so. On macOS, whose linker knows no such flag, the
+ * library is told before main to allocate by these functions, so that its own requests alone are counted. Each thread counts for itself.
  */
 #include "harness.h"
+
+#include <stdlib.h>
 
 static _Thread_local struct {
     size_t requests; /* since the last call of `count_requests` */
@@ -13,12 +16,22 @@ static _Thread_local struct {
     long live;
 } state;
 
-void *__real_malloc(size_t size);
-void *__real_realloc(void *old, size_t size);
-void __real_free(void *old);
 void *__wrap_malloc(size_t size);
 void *__wrap_realloc(void *old, size_t size);
 void __wrap_free(void *old);
+#ifdef __APPLE__
+#define __real_malloc malloc
+#define __real_realloc realloc
+#define __real_free free
+__attribute__((constructor)) static void count_all(void)
+{
+    EXPECT_STATUS(YUREWHA_DONE, yurewha_set_allocator(__wrap_malloc, __wrap_realloc, __wrap_free));
+}
+#else
+void *__real_malloc(size_t size);
+void *__real_realloc(void *old, size_t size);
+void __real_free(void *old);
+#endif
 
 void count_requests(void)
 {

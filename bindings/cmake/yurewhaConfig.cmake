@@ -1,9 +1,9 @@
 # For find_package(yurewha). The targets are yurewha::shared and yurewha::static; yurewha::yurewha is the shared one, or the
 # static one where BUILD_SHARED_LIBS is set to a false value. All may be moved together. The header is in one of the usual places,
 # seen from the library, of which Debian's is one; else where it was installed.
-if(NOT CMAKE_SYSTEM_NAME MATCHES "^(Linux|Windows)$")
+if(NOT CMAKE_SYSTEM_NAME MATCHES "^(Linux|Windows|Darwin)$")
   set(yurewha_NOT_FOUND_MESSAGE
-    "There is no library for ${CMAKE_SYSTEM_NAME}: it is for Linux on x86_64 and aarch64, and for Windows on x86_64; elsewhere a Linux \
+    "There is no library for ${CMAKE_SYSTEM_NAME}: it is for Linux and macOS on x86_64 and aarch64, and for Windows on x86_64; elsewhere a Linux \
 container runs it, the JavaScript package runs as it is, and xet-core-structures has the same hashes")
   set(yurewha_FOUND FALSE)
   return()
@@ -24,6 +24,10 @@ if(NOT TARGET yurewha::shared)
     set_target_properties(yurewha::shared PROPERTIES
       IMPORTED_IMPLIB "${yurewha_libdir}/libyurewha.dll.a"
       IMPORTED_LOCATION "${yurewha_libdir}/../bin/libyurewha-1.dll")
+  elseif(APPLE)
+    set_target_properties(yurewha::shared PROPERTIES
+      IMPORTED_LOCATION "${yurewha_libdir}/libyurewha.1.dylib"
+      IMPORTED_SONAME "@rpath/libyurewha.1.dylib")
   else()
     set_target_properties(yurewha::shared PROPERTIES
       IMPORTED_LOCATION "${yurewha_libdir}/libyurewha.so.1"

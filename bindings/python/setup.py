@@ -10,9 +10,11 @@ was built, as `make` builds the DLL for Windows, the wheel has that one:
 from __future__ import annotations
 
 import os
+import platform
 import re
 import shutil
 import subprocess
+import sys
 import tempfile
 from pathlib import Path
 
@@ -27,14 +29,17 @@ except ImportError:  # before setuptools 70.1
 
 PACKED = Path("native")
 #: The folders of the repository that have the files, and what a source distribution takes of them.
-FOLDERS = {Path("../../dist"): ("*.c", "x86-64*.s", "aarch64.s", "targets.txt"), Path("../include"): ("yurewha.h",)}
-NAME = "libyurewha.so.1"
+FOLDERS = {Path("../../dist"): ("*.c", "x86-64*.s", "aarch64.s", "macos-*.s", "targets.txt"), Path("../include"): ("yurewha.h",)}
+IS_MACOS = sys.platform == "darwin"
+NAME = "libyurewha.1.dylib" if IS_MACOS else "libyurewha.so.1"
 #: What the wheel has: a library that is compiled here if this is empty.
 CHOSEN = os.environ.get("YUREWHA_LIBRARY", "")
 #: As in bindings/Makefile: by these the library says that it works with a protection of programs, which the start files may not say.
 PROTECTIONS = {"x86_64": "-fcf-protection=full", "aarch64": "-mbranch-protection=standard"}
 #: The oldest glibc that a manylinux wheel may ask for.
 GLIBC = (2, 17)
+#: The oldest macOS that a wheel for it may ask for: the first one on arm64.
+MACOS = "11.0"
 
 
 def files() -> list[Path]:
@@ -53,12 +58,12 @@ def copy_files(to: Path) -> None:
 def sources(processor: str, folder: Path) -> list[str]:
     """The files of a folder that make the library for a processor, which are listed in targets.txt."""
     lines = [line.split() for line in (folder / "targets.txt").read_text(encoding="utf-8").splitlines()]
-    levels = [words[0] for words in lines if words[0] != "#" and words[1] == processor]
+    levels = [f"{'macos-' if IS_MACOS else ''}{words[0]}" for words in lines if words[0] != "#" and words[1] == processor]
     if not levels:
         raise SystemExit(
-            f"yurewha: there is no library for {processor}: it is compiled for Linux on x86_64 and aarch64; for Windows on x86_64, "
-            "YUREWHA_LIBRARY names the DLL that `make` builds; elsewhere a Linux container runs it, and the JavaScript package runs as it "
-            "is")
+            f"yurewha: there is no library for {processor}: it is compiled for Linux and macOS on x86_64 and aarch64; for Windows on "
+            "x86_64, YUREWHA_LIBRARY names the DLL that `make` builds; elsewhere a Linux container runs it, and the JavaScript "
+            "package runs as it is")
     return [str(folder / name) for name in ("processor_level.c", "heap.c", *(f"{level}.s" for level in levels))]
 
 
@@ -93,6 +98,9 @@ class BuildLibrary(build_ext):
         system, _, processor = self.plat_name.partition("-")
         folder = Path(self.build_temp, PACKED)
         copy_files(folder)
+        if IS_MACOS:
+            self.build_for_macos(folder, Path(self.get_ext_fullpath(extension.name)))
+            return
         extension.sources = sources(processor if system == "linux" else self.plat_name, folder)
         extension.include_dirs = [str(folder)]
         if self.takes(PROTECTIONS[processor]):
@@ -100,6 +108,18 @@ class BuildLibrary(build_ext):
             extension.extra_link_args.append("-nostartfiles")
         self.compiler.src_extensions.append(".s")
         super().build_extension(extension)
+
+    def build_for_macos(self, folder: Path, to: Path) -> None:
+        """Calls the compiler for this Mac's processor, since Python's own words build a bundle for two processors at once."""
+        processor = platform.machine()
+        files = sources(processor.replace("arm64", "aarch64"), folder)
+        to.parent.mkdir(parents=True, exist_ok=True)
+        compiler = os.environ.get("CC", "cc").split()
+        words = ["-arch", processor, f"-mmacosx-version-min={MACOS}", "-std=c11", "-O2", "-dynamiclib", f"-Wl,-install_name,@rpath/{NAME}"]
+        try:
+            subprocess.run([*compiler, *words, "-I", str(folder), *files, "-o", str(to)], check=True)
+        except (OSError, subprocess.CalledProcessError) as fault:
+            raise SystemExit(f"yurewha: the library can't be compiled, for which `xcode-select --install` has a compiler: {fault}") from fault
 
     def copy_extensions_to_source(self) -> None:
         Path("yurewha", "lib").mkdir(exist_ok=True)  # where the library of `pip install -e` goes
@@ -110,17 +130,19 @@ class WheelForProcessor(bdist_wheel):
     """A wheel for any Python 3 on the processor of its library."""
 
     def get_tag(self) -> tuple[str, str, str]:
-        _, _, platform = super().get_tag()
+        _, _, system = super().get_tag()
         if self.root_is_pure:
             return "py3", "none", "any"
+        if IS_MACOS and not CHOSEN:
+            return "py3", "none", f"macosx_{MACOS.replace('.', '_')}_{platform.machine()}"
         # What `pip install -e` makes is for this machine alone, and its name is asked for before its library is made.
-        if platform.startswith("win") or "editable_wheel" in self.distribution.commands:
-            return "py3", "none", platform
+        if system.startswith(("win", "macosx")) or "editable_wheel" in self.distribution.commands:
+            return "py3", "none", system
         library = Path(self.bdist_dir, "yurewha", "lib", NAME).read_bytes()
         versions = [(int(major), int(minor)) for major, minor in re.findall(rb"GLIBC_(\d+)\.(\d+)", library)]
         if versions and max(versions) <= GLIBC:
-            platform = platform.replace("linux_", f"manylinux_{GLIBC[0]}_{GLIBC[1]}_")
-        return "py3", "none", platform
+            system = system.replace("linux_", f"manylinux_{GLIBC[0]}_{GLIBC[1]}_")
+        return "py3", "none", system
 
 
 LIBRARY = Extension(

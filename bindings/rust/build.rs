@@ -55,15 +55,20 @@ fn levels() -> Result<Vec<String>, String> {
     let lines = text.lines().filter(|line| !line.starts_with('#'));
     let lines = lines.map(|line| line.split_whitespace().collect::<Vec<_>>());
     let levels = lines.filter(|words| words[1] == arch).map(|words| words[0]);
-    // The assembly for Windows has the same levels.
+    // The assembly for Windows and macOS has the same levels.
     let is_for_windows = kind == ["windows", "64", "little"] && arch == "x86_64" && of_target("ENV") == "gnu";
-    let prefix = if is_for_windows { "windows-" } else { "" };
+    let is_for_macos = kind == ["macos", "64", "little"];
+    let prefix = match (is_for_windows, is_for_macos) {
+        (true, _) => "windows-",
+        (_, true) => "macos-",
+        _ => "",
+    };
     let names: Vec<_> = levels.map(|level| format!("{prefix}{level}")).collect();
-    if names.is_empty() || !(is_for_windows || kind == ["linux", "64", "little"]) {
+    if names.is_empty() || !(is_for_windows || is_for_macos || kind == ["linux", "64", "little"]) {
         let target = env::var("TARGET").unwrap_or_default();
         return Err(format!(
-            "the library is for Linux on x86_64 and aarch64, and for x86_64-pc-windows-gnu, not for {target}; \
-             depend on it for these targets alone, and on xet-core-structures for others"
+            "the library is for Linux and macOS on x86_64 and aarch64, and for x86_64-pc-windows-gnu, \
+             not for {target}; depend on it for these targets alone, and on xet-core-structures for others"
         ));
     }
     Ok(names)

@@ -13,8 +13,11 @@
 #include <stdlib.h>
 #include <string.h>
 
-/* The words that hold the features: ecx of the leaves 1 and 0x80000001, ebx of leaf 7, and the low half of XCR0. */
-enum word { LEAF_1, LEAF_7, EXTENDED, XCR0, WORDS };
+/*
+ * The words that hold the features: ecx of the leaves 1 and 0x80000001, ebx of leaf 7, the low half of XCR0, and what macOS says of
+ * AVX-512. With -D__APPLE__ this tests the choice on macOS.
+ */
+enum word { LEAF_1, LEAF_7, EXTENDED, XCR0, SYSCTL, WORDS };
 
 static struct {
     unsigned words[WORDS];
@@ -56,6 +59,18 @@ static void say(FILE *to, const char *format, ...)
 
 static char *variable(const char *name);
 
+#ifdef __APPLE__
+/* As macOS has it, which fails for a name that it doesn't know, such as that of a feature that came later. */
+static int asked(const char *name, void *old, size_t *size, void *new, size_t length)
+{
+    expect(strcmp(name, "hw.optional.avx512f") == 0 && *size == sizeof(int) && new == NULL && length == 0, "macOS is asked", name);
+    if ((processor.words[SYSCTL] & 2) == 0)
+        return -1;
+    *(int *)old = processor.words[SYSCTL] & 1;
+    return 0;
+}
+#define sysctlbyname asked
+#endif
 #define __get_cpuid(leaf, eax, ebx, ecx, edx) cpuid_of(leaf, 0, eax, ebx, ecx, edx)
 #define __get_cpuid_count(leaf, part, eax, ebx, ecx, edx) cpuid_of(leaf, part, eax, ebx, ecx, edx)
 #define __asm__
@@ -116,9 +131,14 @@ static const struct feature {
     {"x86-64-v4", "x86-64-v3", "AVX512CD", LEAF_7, 28},
     {"x86-64-v4", "x86-64-v3", "AVX512BW", LEAF_7, 30},
     {"x86-64-v4", "x86-64-v3", "AVX512VL", LEAF_7, 31},
+#ifdef __APPLE__
+    {"x86-64-v4", "x86-64-v3", "what macOS says of AVX-512", SYSCTL, 0},
+    {"x86-64-v4", "x86-64-v3", "a macOS that knows of AVX-512", SYSCTL, 1},
+#else
     {"x86-64-v4", "x86-64-v3", "saved masks of AVX-512", XCR0, 5},
     {"x86-64-v4", "x86-64-v3", "saved upper halves of AVX-512", XCR0, 6},
     {"x86-64-v4", "x86-64-v3", "saved upper registers of AVX-512", XCR0, 7},
+#endif
 };
 #define FEATURES (sizeof features / sizeof *features)
 

@@ -10,6 +10,7 @@ from coff import difference_in_coff, with_long_jumps
 from instructions import Object, difference
 from levels import ROOT, Part
 from proving import Fault, run
+from same_code import KEEP_LABELS, difference as difference_of_pieces
 
 
 @dataclass(frozen=True)
@@ -31,6 +32,10 @@ ASSEMBLERS = {
         ["x86_64-w64-mingw32-gcc"], ["clang", "--target=x86_64-w64-mingw32"], "x86_64-w64-mingw32-objdump",
         ("gcc-mingw-w64-x86-64", "clang")),
 }
+
+
+#: What clang calls macOS, from its first version for arm64 on.
+MACOS_TARGETS = {"x86_64": "x86_64-apple-macosx11.0", "aarch64": "arm64-apple-macosx11.0"}
 
 
 def refuse_other_avx512(level: Part, work: Path) -> None:
@@ -55,3 +60,11 @@ def difference_of_assemblers(part: Part, work: Path) -> str | None:
     if part.is_for_windows:
         return difference_in_coff(tools.objdump, first, second)
     return difference(Object(tools.objdump, first), Object(tools.objdump, second))
+
+
+def difference_for_macos(part: Part, clang: str | Path, work: Path, file: Path | None = None) -> str | None:
+    """The first difference of what a clang makes of a part's file for macOS, or of another one, and of that for Linux, or None."""
+    linux, macos = work / "for_linux.o", work / "for_macos.o"
+    run(clang, f"--target={part.processor}-linux-gnu", KEEP_LABELS, "-c", part.assembly_for_linux, "-o", linux)
+    run(clang, f"--target={MACOS_TARGETS[part.processor]}", "-c", file or part.assembly, "-o", macos)
+    return difference_of_pieces(linux, macos)

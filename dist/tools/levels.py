@@ -1,5 +1,5 @@
-"""The files of assembly: of the library, for each level of processors, and of the programs, for Linux and Windows; and the sources that
-they are made of."""
+"""The files of assembly: of the library, for each level of processors, and of the programs, for Linux, Windows and macOS; and the sources
+that they are made of."""
 
 from __future__ import annotations
 
@@ -20,6 +20,8 @@ WASM = ROOT / "bindings/wasm/yurewha/yurewha.wasm"
 TRANSLATED = "x86-64-v4"
 #: What the names of levels for Windows begin with. They have the modules that are proved for Linux.
 WINDOWS = "windows-"
+#: What the names of levels for macOS begin with. Their files are those for Linux in another form.
+MACOS = "macos-"
 #: The crate of the library, and those of the programs.
 LIBRARY = "yurewha_c"
 #: A line of comments in a source.
@@ -58,12 +60,22 @@ class Part:
     @property
     def name_for_linux(self) -> str:
         """The name of what has the same module for Linux."""
-        return self.name.replace(WINDOWS, "")
+        return self.name.replace(WINDOWS, "").replace(MACOS, "")
+
+    @property
+    def is_for_macos(self) -> bool:
+        """Whether it is for macOS. Then its file is made of that for Linux."""
+        return MACOS in self.name
+
+    @property
+    def assembly_for_linux(self) -> Path:
+        """The file that has the same module for Linux."""
+        return self.assembly.with_name(f"{self.name_for_linux}.s")
 
     @property
     def platform(self) -> str:
         """The processor, after the system if that isn't Linux."""
-        return f"{WINDOWS if self.is_for_windows else ''}{self.processor}"
+        return f"{WINDOWS if self.is_for_windows else MACOS if self.is_for_macos else ''}{self.processor}"
 
     @property
     def proved(self) -> Path:
@@ -147,8 +159,14 @@ def parts_for_windows() -> list[Level | Program]:
     return [*levels_for_windows(), *programs_over(levels_for_windows())]
 
 
+def parts_for_macos() -> list[Level | Program]:
+    """Whatever has a file of assembly for macOS."""
+    found = [replace(level, name=MACOS + level.name) for level in levels()]
+    return [*found, *programs_over(found)]
+
+
 def parts() -> list[Level | Program]:
-    """Whatever has a file of assembly, for Linux first."""
+    """Whatever has a file of assembly that is made of a module, for Linux first."""
     return [*parts_for_linux(), *parts_for_windows()]
 
 
@@ -193,7 +211,7 @@ def sources_sum(top: str) -> str:
 
 def made_files() -> list[Path]:
     """The files that dist/make writes, but for sums.txt."""
-    return [*(part.assembly for part in parts()), WASM]
+    return [*(part.assembly for part in (*parts(), *parts_for_macos())), WASM]
 
 
 def sums() -> str:

@@ -13,12 +13,25 @@ enum { THREADS = 8 };
 static const char text[] = "abc";
 static yurewha_hash before[THREADS], after[THREADS];
 static const char *levels[THREADS];
-static pthread_barrier_t barrier;
+static pthread_mutex_t lock = PTHREAD_MUTEX_INITIALIZER;
+static pthread_cond_t all_are_here = PTHREAD_COND_INITIALIZER;
+static unsigned here;
+
+/* A barrier, which macOS' threads lack. */
+static void wait_for_all(void)
+{
+    pthread_mutex_lock(&lock);
+    if (++here == THREADS)
+        pthread_cond_broadcast(&all_are_here);
+    while (here < THREADS)
+        pthread_cond_wait(&all_are_here, &lock);
+    pthread_mutex_unlock(&lock);
+}
 
 static void *call(void *number)
 {
     const size_t i = (size_t)number;
-    pthread_barrier_wait(&barrier);
+    wait_for_all();
     yurewha_data_hash(text, sizeof text - 1, &before[i]);
     levels[i] = yurewha_processor_level();
     yurewha_data_hash(text, sizeof text - 1, &after[i]);
@@ -28,12 +41,10 @@ static void *call(void *number)
 __attribute__((constructor(101))) static void call_first(void)
 {
     pthread_t threads[THREADS];
-    pthread_barrier_init(&barrier, NULL, THREADS);
     for (size_t i = 0; i < THREADS; i++)
         pthread_create(&threads[i], NULL, call, (void *)i);
     for (size_t i = 0; i < THREADS; i++)
         pthread_join(threads[i], NULL);
-    pthread_barrier_destroy(&barrier);
 }
 
 /* The hash of abc, by the model. */

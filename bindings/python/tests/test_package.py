@@ -171,6 +171,20 @@ def test_where_the_dll_is_found(tmp_path):
     assert "which has no libyurewha-1.dll" in found({**place, "YUREWHA_LIB_DIR": str(tmp_path)}, tmp_path, statement)
 
 
+@pytest.mark.skipif(not os.path.isabs(_library.PATH), reason="the library is the loader's")
+@pytest.mark.parametrize("machine,folder", [("x86_64", "macos-x86_64"), ("arm64", "macos-aarch64")])
+def test_where_the_library_for_macos_is_found(tmp_path, machine, folder):
+    """By the names of macOS, where this system's library stands for that one."""
+    copy = tmp_path / "bindings" / "python" / "yurewha"
+    shutil.copytree(PACKAGE, copy, ignore=shutil.ignore_patterns("lib", "__pycache__"))
+    statement = (f"import ctypes, pathlib, platform, sys; sys.platform = 'darwin'; platform.machine = lambda: {machine!r}; "
+                 "import yurewha.__main__ as m; print(m.loaded())")
+    out = tmp_path / "bindings" / "out" / folder / "lib"
+    out.mkdir(parents=True)
+    shutil.copy(Path(_library.PATH).resolve(), out / "libyurewha.1.dylib")
+    assert found({"PYTHONPATH": str(copy.parent)}, tmp_path, statement) == str(out / "libyurewha.1.dylib")
+
+
 #: What is said where there is no library.
 ELSEWHERE = "elsewhere a Linux container runs it, and the JavaScript package runs as it is"
 
@@ -178,10 +192,10 @@ ELSEWHERE = "elsewhere a Linux container runs it, and the JavaScript package run
 def test_there_is_no_library_for_other_systems(tmp_path):
     copy = tmp_path / "yurewha"
     shutil.copytree(PACKAGE, copy, ignore=shutil.ignore_patterns("lib", "__pycache__"))
-    statement = "import ctypes, pathlib, platform, sys; sys.platform = 'darwin'; import yurewha"
+    statement = "import ctypes, pathlib, platform, sys; sys.platform = 'freebsd14'; import yurewha"
     assert found({"PYTHONPATH": str(tmp_path)}, tmp_path, statement) == (
-        "ImportError: yurewha: there is no library for darwin: it is for Linux on x86_64 and aarch64, and for Windows on x86_64; "
-        + ELSEWHERE)
+        "ImportError: yurewha: there is no library for freebsd14: it is for Linux and macOS on x86_64 and aarch64, and for Windows on "
+        "x86_64; " + ELSEWHERE)
 
 
 @pytest.mark.skipif(not (PACKAGE.parent / "setup.py").exists(), reason="it needs the repository")
@@ -194,8 +208,8 @@ def test_there_is_nothing_to_compile_for_other_systems(tmp_path, system):
     name = "riscv64" if system.startswith("linux") else system
     assert done.returncode != 0 and not list(tmp_path.iterdir())
     assert done.stderr.strip().rpartition("\n")[2] == (
-        f"yurewha: there is no library for {name}: it is compiled for Linux on x86_64 and aarch64; for Windows on x86_64, "
-        f"YUREWHA_LIBRARY names the DLL that `make` builds; {ELSEWHERE}")
+        f"yurewha: there is no library for {name}: it is compiled for Linux and macOS on x86_64 and aarch64; for Windows on "
+        f"x86_64, YUREWHA_LIBRARY names the DLL that `make` builds; {ELSEWHERE}")
 
 
 @pytest.mark.skipif(not (PACKAGE.parent / "setup.py").exists(), reason="it needs the repository")

@@ -18,7 +18,8 @@ from ._calls import named
 from ._declarations import DECLARATIONS, MEMBERS, STRUCTS
 
 IS_WINDOWS = sys.platform == "win32"
-NAME = "libyurewha-1.dll" if IS_WINDOWS else "libyurewha.so.1"
+IS_MACOS = sys.platform == "darwin"
+NAME = "libyurewha-1.dll" if IS_WINDOWS else "libyurewha.1.dylib" if IS_MACOS else "libyurewha.so.1"
 
 #: A call releases the interpreter's lock if its message has at least this many bytes, or its list this many chunks or nodes.
 #: Shorter calls take less time than passing the lock between threads.
@@ -137,7 +138,8 @@ def find(package: Optional[Path] = None) -> str:
             raise ImportError(f"yurewha: YUREWHA_LIB_DIR is {folder}, which has no {NAME}")
         return str(named)
     if package.parent.name == "python" and package.parent.parent.name == "bindings":
-        folder_of_system = "windows-x86_64/bin" if IS_WINDOWS else f"{platform.machine()}/lib"
+        processor = platform.machine().replace("arm64", "aarch64")
+        folder_of_system = "windows-x86_64/bin" if IS_WINDOWS else f"{'macos-' if IS_MACOS else ''}{processor}/lib"
         built = package.parent.parent / "out" / folder_of_system / NAME
         if built.exists():
             return str(built)
@@ -177,9 +179,9 @@ PATH: str = find()
 try:
     _long = ctypes.CDLL(PATH)
 except OSError as error:
-    if sys.platform not in ("linux", "win32"):
+    if sys.platform not in ("linux", "darwin", "win32"):
         raise ImportError(
-            f"yurewha: there is no library for {sys.platform}: it is for Linux on x86_64 and aarch64, and for Windows on x86_64; "
+            f"yurewha: there is no library for {sys.platform}: it is for Linux and macOS on x86_64 and aarch64, and for Windows on x86_64; "
             "elsewhere a Linux container runs it, and the JavaScript package runs as it is") from error
     raise ImportError(f"yurewha: {NAME} can't be loaded; YUREWHA_LIB_DIR may name its folder: {error}") from error
 _short = ctypes.PyDLL(PATH, handle=_long._handle)

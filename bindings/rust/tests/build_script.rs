@@ -78,7 +78,9 @@ fn run(target: &str, variables: &[(&str, &str)]) -> Output {
     let parts: Vec<_> = target.split('-').collect();
     let os = match parts[..] {
         [_, _, os @ ("linux" | "windows"), _] => os,
-        _ => "macos",
+        [_, "apple", "darwin"] => "macos",
+        [.., os] => os,
+        [] => "",
     };
     let width = if target.contains("32") { "32" } else { "64" };
     let endian = if target.contains("_be") { "big" } else { "little" };
@@ -116,12 +118,16 @@ fn all_levels_of_the_targets_processor_are_compiled() {
     let aarch64 = [&unproved[..], &["aarch64.s"]].concat();
     let windows = assembly.map(|name| format!("windows-{name}"));
     let windows = [&unproved[..], &windows.each_ref().map(String::as_str)].concat();
+    let macos = assembly.map(|name| format!("macos-{name}"));
+    let macos = [&unproved[..], &macos.each_ref().map(String::as_str)].concat();
     for (target, files) in [
         ("x86_64-unknown-linux-gnu", &x86_64),
         ("x86_64-unknown-linux-musl", &x86_64),
         ("aarch64-unknown-linux-gnu", &aarch64),
         ("aarch64-unknown-linux-musl", &aarch64),
         ("x86_64-pc-windows-gnu", &windows),
+        ("x86_64-apple-darwin", &macos),
+        ("aarch64-apple-darwin", &[&unproved[..], &["macos-aarch64.s"]].concat()),
     ] {
         let output = run(target, &[]);
         assert!(output.status.success(), "{output:?}");
@@ -148,14 +154,14 @@ fn a_target_without_assembly_is_refused() {
         "x86_64-pc-windows-msvc",
         "i686-pc-windows-gnu",
         "aarch64-pc-windows-gnullvm",
-        "x86_64-apple-darwin",
-        "aarch64-apple-darwin",
+        "aarch64-apple-ios",
+        "x86_64-linux-android",
     ] {
         let output = run(target, &[]);
         let said = String::from_utf8(output.stderr.clone()).unwrap();
         let wanted = format!(
-            "yurewha: the library is for Linux on x86_64 and aarch64, and for x86_64-pc-windows-gnu, not for {target}; \
-             depend on it for these targets alone, and on xet-core-structures for others\n"
+            "yurewha: the library is for Linux and macOS on x86_64 and aarch64, and for x86_64-pc-windows-gnu, \
+             not for {target}; depend on it for these targets alone, and on xet-core-structures for others\n"
         );
         assert!(!output.status.success() && compiled(&output).is_empty(), "{target}");
         assert_eq!(said, wanted);

@@ -1,0 +1,2 @@
+#pragma once
+void (*signal(int, void (*)(int)))(int);
