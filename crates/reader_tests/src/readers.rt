@@ -175,7 +175,7 @@ fn more_chunks_than_may_be_kept_leave_the_last_ones(rt: HostRuntime) {
 }
 
 #[test]
-fn what_is_missing_goes_from_gap_to_gap(rt: HostRuntime) {
+fn what_is_missing_begins_at_the_first_byte_that_is_not_kept(rt: HostRuntime) {
     let memory = refusing(rt.alloc());
     let file = make_file(&rt, &memory);
     let mut kept = reader(&rt, &memory, &file, 10_000);
@@ -183,12 +183,11 @@ fn what_is_missing_goes_from_gap_to_gap(rt: HostRuntime) {
     take(&rt, &memory, &file, &mut kept, 2, 4);
     take(&rt, &memory, &file, &mut kept, 6, 7);
     assert!(rt;
-        kept.needs(5, 1_000, 50) == Some((5, 20)) && kept.needs(5, 15, 50) == Some((5, 15))
+        kept.needs(5, 1_000, 50) == Some((5, 55)) && kept.needs(5, 15, 50) == Some((5, 15))
     );
-    assert!(rt; kept.needs(25, 1_000, 50) == Some((40, 60)) && kept.needs(25, 40, 50) == None);
-    assert!(rt;
-        kept.needs(65, 1_000, 20) == Some((70, 90)) && kept.needs(65, 1_000, 50) == Some((70, 100))
-    );
+    assert!(rt; kept.needs(25, 1_000, 50) == Some((40, 90)) && kept.needs(25, 40, 50) == None);
+    assert!(rt; kept.needs(65, 1_000, 20) == Some((70, 90)));
+    assert!(rt; kept.needs(65, u64::MAX, u64::MAX) == Some((70, 100)));
     assert!(rt; kept.needs(99, 1_000, 0) == Some((99, 100)) && kept.needs(100, 1_000, 50) == None);
 }
 

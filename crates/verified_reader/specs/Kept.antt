@@ -31,13 +31,12 @@ IsFree kept begin end = (chunk : Chunk) → Contains kept chunk → (end_of chun
 abbrev pub AllKept : List Chunk → ℕ → ℕ → Type 0
 AllKept kept from to = (place : ℕ) → from ≤ place → place < to → IsKept kept place
 
--- the first places from one place on and below another between which no byte is kept
-pub record IsFirstGap (kept : List Chunk) (from to first end : ℕ) : Type 0 where
+-- the first place from one place on and below another whose byte isn't kept
+pub record IsFirstMissing (kept : List Chunk) (from to first : ℕ) : Type 0 where
   pub begins : from ≤ first
-  pub some : first < end
-  pub ends : end ≤ to
+  pub within : first < to
   pub before : AllKept kept from first
-  pub free : IsFree kept first end
+  pub missing : ¬ (IsKept kept first)
 
 -- what chunks count: their bytes, and 128 for each
 abbrev pub size_of_kept : List Chunk → ℕ

@@ -1,8 +1,8 @@
 //! A reader of a file that is somewhere else: what was checked of it, and is kept.
 
-ghost use Rattle.std.specs.Prelude.{◌≡◌, ◌⊎◌, ◌+◌, ◌<◌, ◌≤◌, ◌↔◌, ◌++◌, List, [], None, Some, Option, length, take, drop, All, IfNone, IfOk, IfSome, max, IsTrue};
+ghost use Rattle.std.specs.Prelude.{◌≡◌, ◌⊎◌, ◌+◌, ◌<◌, ◌≤◌, ◌↔◌, ◌++◌, List, [], None, Some, Option, length, take, drop, All, IfNone, IfOk, IfSome, max, min, IsTrue};
 ghost use Rattle.range_proof.specs.RangeProof.{file_size_of};
-ghost use Rattle.verified_reader.specs.Kept.{AllKept, AreKeptAt, AreUsed, IsFirstGap, IsKept, KeepsAll, size_of_kept};
+ghost use Rattle.verified_reader.specs.Kept.{AllKept, AreKeptAt, AreUsed, IsFirstMissing, IsKept, KeepsAll, size_of_kept};
 ghost use Rattle.verified_reader.specs.Reader.{AreOfFile, Check, HasLearned, IsCheckedBy, IsPartOf, IsShownBy, IsSizeOfFile, checks_of, within_file};
 
 use crate::kept_chunks::KeptChunks;
@@ -103,18 +103,17 @@ impl<A: Allocator + Clone> VerifiedReader<A> {
     }
 
     /// Returns what is still missing of the bytes from the place `from` up to, but without, the place `to`, or up to the end
-    /// of the file if its size is known: the first places between which no byte is kept, at most `piece` bytes, or one if
-    /// that is 0. Returns `None` if all these bytes are kept. It allocates nothing.
+    /// of the file if its size is known: the place of the first byte that isn't kept, and up to where the bytes from it on are
+    /// wanted, at most `piece` bytes, or one if that is 0. Returns `None` if all these bytes are kept. It allocates nothing.
     pub fn needs(&self, from: u64, to: u64, piece: u64) -> Option<(u64, u64)>
-        ensures some { IfSome result (λ gap. IsFirstGap self.now.kept from (within_file self.now.size to) gap.0 gap.1) }
+        ensures some { IfSome result (λ wanted. IsFirstMissing self.now.kept from (within_file self.now.size to) wanted.0) }
+        ensures end { IfSome result (λ wanted. wanted.1 ≡ min (within_file self.now.size to) (wanted.0 + max 1 piece)) }
         ensures none { IfNone result (AllKept self.now.kept from (within_file self.now.size to)) }
-        ensures limit { IfSome result (λ gap. gap.1 ≤ gap.0 + max 1 piece) }
     {
-        let (first, end) = self.chunks.first_gap(from, self.within_file(to))?;
-        let most = max(1, piece);
-        let last = first.saturating_add(most);
-        let sooner = min(end, last);
-        Some((first, sooner))
+        let last = self.within_file(to);
+        let first = self.chunks.first_missing(from, last)?;
+        let end = first.saturating_add(max(1, piece));
+        Some((first, min(end, last)))
     }
 
     // Returns a place, or the end of the file if its size is known and it comes first.
