@@ -60,6 +60,14 @@ fn a_proof_of_more_than_2_to_the_17_chunks_has_flat_lists(rt: HostRuntime) {
     assert!(rt; read == proof);
 }
 
+#[test]
+fn a_proof_of_more_than_2_to_the_17_chunks_has_bytes(rt: HostRuntime) {
+    let (proof, _) = long_proof(&rt, rt.alloc());
+    let bytes = proof.to_bytes().expect(&rt, "bytes");
+    let read = RangeProof::from_bytes(rt.alloc(), &bytes).expect(&rt, "a proof");
+    assert!(rt; read == proof);
+}
+
 // Returns a proof of one chunk with a node after it on each of `LEVELS` levels, and the root that it shows.
 fn deep_proof(rt: &impl Abort, memory: Global) -> (RangeProof, MerkleHash) {
     let beside = chunks(rt, memory, LEVELS as u64);
@@ -111,6 +119,7 @@ const FEW: u64 = 200;
 // - A proof copies the chunks of its range. That of one chunk copies a few nodes of each level.
 // - Opening copies the nodes of each level, makes their parents, and keeps a place for each chunk.
 // - Flat lists have all nodes in one list, whose room is doubled. So do the nodes that are read from JSON.
+// - Bytes are as long as the nodes, and are made of the flat list and read to one.
 const CALLS: &str = "tree|4
 proof of all|1
 proof of one|0
@@ -118,6 +127,8 @@ copy|1
 open|4
 to flat lists|4
 from flat lists|1
+to bytes|5
+from bytes|2
 from JSON|4";
 
 // Makes a call with `count` chunks. Returns the bytes that it asks for.
@@ -127,6 +138,7 @@ fn asked(rt: &impl Abort, memory: Global, call: &str, count: u64) -> u64 {
     let tree = HashTree::from_chunks(&alloc, &chunks).expect(rt, "a tree");
     let proof = tree.proof(&alloc, 0, chunks.len()).expect(rt, "a proof");
     let (counts, nodes) = proof.to_flat().expect(rt, "flat lists");
+    let bytes = proof.to_bytes().expect(rt, "bytes");
     alloc.grant(u32::MAX);
     match call {
         "tree" => {
@@ -150,6 +162,12 @@ fn asked(rt: &impl Abort, memory: Global, call: &str, count: u64) -> u64 {
         }
         "from flat lists" => {
             RangeProof::from_flat(&alloc, &counts, &nodes).expect(rt, "a proof");
+        }
+        "to bytes" => {
+            proof.to_bytes().expect(rt, "bytes");
+        }
+        "from bytes" => {
+            RangeProof::from_bytes(&alloc, &bytes).expect(rt, "a proof");
         }
         _ => {
             let value = proof.to_json(memory).expect(rt, "a value");

@@ -1,3 +1,5 @@
+pub mod BytesOf
+pub mod BytesRules
 pub mod Completeness
 pub mod FlatOf
 pub mod JsonOf

@@ -1,5 +1,6 @@
 pub mod Checking
 pub mod FlatProof
+pub mod ProofBytes
 pub mod ProofJson
 pub mod Proving
 pub mod RangeProof

@@ -78,7 +78,7 @@ fn counts_of<A: Allocator>(
 }
 
 // Returns the nodes of a proof in the order of the file.
-fn nodes_of<A: Allocator>(
+pub(crate) fn nodes_of<A: Allocator>(
     alloc: A,
     chunks: &[Node],
     levels: &[LevelNodes<A>],

@@ -8,6 +8,7 @@ ghost use Rattle.xet_roots.specs.Groups.{Node};
 ghost use Rattle.xet_roots.specs.Roots.{total_size, IsRoot, IsFileHash};
 ghost use Rattle.commitment.specs.Commitment.{chunk_nodes, HashedForRoot, HashedForFile, Collision};
 ghost use Rattle.range_proof.specs.RangeProof.{Proof, HasHashes, IsProofOf, Shows, ShowsRoot, IsWellFormed, begin_of, file_size_of};
+ghost use Rattle.range_proof.specs.ProofBytes.{BreakRule, SayProof};
 ghost use Rattle.range_proof.specs.ProofJson.{Reads, proof_json};
 ghost use Rattle.level_nodes.specs.FlatLevels.{IsFlat};
 ghost use Rattle.range_proof.specs.Soundness.{AreChunksAt, CheckedForRoot, CheckedForFile, HasChunksAt};
@@ -115,4 +116,16 @@ pub fn json_says_well_formed_range_proofs()
 pub fn flat_lists_say_one_range_proof()
     ensures { (counts : List (ℕ × ℕ)) (nodes : List Node) (a b : Proof) →
         IsFlat counts nodes a.levels a.chunks → IsFlat counts nodes b.levels b.chunks → a ≡ b }
+{}
+
+/// Bytes say at most one range proof. So reading what `to_bytes` returns gives the same proof, unless an allocation fails.
+/// Bytes that say a proof break no rule.
+pub fn bytes_say_one_range_proof()
+    ensures one { (bytes : List ℕ) (a b : Proof) → SayProof bytes a → SayProof bytes b → a ≡ b }
+    ensures kept { (bytes : List ℕ) (proof : Proof) (rule : ℕ) → SayProof bytes proof → ¬ (BreakRule bytes rule) }
+{}
+
+/// Bytes break at most one rule, the lowest.
+pub fn bytes_break_one_rule()
+    ensures { (bytes : List ℕ) (rule other : ℕ) → BreakRule bytes rule → BreakRule bytes other → rule ≡ other }
 {}

@@ -2,6 +2,7 @@
 //! chunks, and the other nodes of each group on the way up.
 #![tactic(auto)]
 
+mod bytes;
 mod flat;
 pub mod hash_tree;
 mod json;

@@ -91,6 +91,20 @@ impl<A: Allocator> OpenedRange<A> {
         self.proof.chunks().len()
     }
 
+    /// Returns where in the file the range begins, in bytes.
+    pub fn begin(&self) -> u64
+        ensures { result ≡ begin_of self.now 0 }
+    {
+        self.places[0]
+    }
+
+    /// Returns where in the file the range ends: the place after its last byte.
+    pub fn end(&self) -> u64
+        ensures { result ≡ begin_of self.now (length self.now.chunks) }
+    {
+        self.places[self.num_chunks()]
+    }
+
     /// Returns where in the file a chunk of the range begins, in bytes, or `None` if there is no such chunk. The chunks
     /// of the range count from 0.
     pub fn begins(&self, k: usize) -> Option<u64>
@@ -147,10 +161,10 @@ impl<A: Allocator> OpenedRange<A> {
         ensures sound { IfSome result (λ bytes. IsSoundRead self.now from to «data».now bytes.now) }
         ensures sound_for_root { IfSome result (λ bytes. IsSoundReadForRoot self.now from to «data».now bytes.now) }
     {
-        // The law of what was read, for the last two clauses.
+        // The law of what was read, for the last two clauses, and what it takes.
         bytes_that_are_read_are_those_of_the_file();
-        let begin = self.places[0];
-        let end = self.places[self.num_chunks()];
+        let _count = self.num_chunks();
+        let (begin, end) = (self.begin(), self.end());
         if from < begin || to < from || end < to || !are_chunks(self.proof.chunks(), data) {
             return None;
         }

@@ -158,6 +158,8 @@ pub enum Call {
     ProofFromJson,
     ProofFromFlat,
     ProofToFlat,
+    ProofFromBytes,
+    ProofToBytes,
     // Merges the chunks from a place on into those before it.
     MergeAt(usize),
     // Each has its row: that of an example, that of a JSON text that is no subtree, that of a session, or that of a
@@ -270,7 +272,9 @@ fn attempt(
         | Call::OpenRoot
         | Call::ProofFromJson
         | Call::ProofFromFlat
-        | Call::ProofToFlat => range_proofs::attempt(rt, call, alloc, granted, chunks),
+        | Call::ProofToFlat
+        | Call::ProofFromBytes
+        | Call::ProofToBytes => range_proofs::attempt(rt, call, alloc, granted, chunks),
         _ => ranges::attempt(rt, call, alloc, granted, chunks),
     }
 }

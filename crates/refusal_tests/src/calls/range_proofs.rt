@@ -12,7 +12,7 @@ const FIRST: usize = 70;
 const END: usize = 75;
 
 /// The calls that make, copy, open and read a proof.
-pub const OF_PROOFS: [Call; 9] = [
+pub const OF_PROOFS: [Call; 11] = [
     Call::HashTree,
     Call::TreeProof,
     Call::ProofFromChunks,
@@ -22,6 +22,8 @@ pub const OF_PROOFS: [Call; 9] = [
     Call::ProofFromJson,
     Call::ProofFromFlat,
     Call::ProofToFlat,
+    Call::ProofFromBytes,
+    Call::ProofToBytes,
 ];
 
 // Returns the proof of a range of some chunks.
@@ -94,7 +96,7 @@ fn open(
     opening_outcome(alloc, answer, &expected)
 }
 
-// Tries to read a proof from its JSON value, or from its flat lists.
+// Tries to read a proof from its JSON value, from its flat lists, or from its bytes.
 fn read(
     rt: &impl Abort,
     call: Call,
@@ -105,9 +107,11 @@ fn read(
     let expected = proof(alloc, chunks).expect(rt, "a proof");
     let value = expected.to_json(chunks.alloc).expect(rt, "memory");
     let (counts, nodes) = expected.to_flat().expect(rt, "memory");
+    let bytes = expected.to_bytes().expect(rt, "memory");
     alloc.grant(granted);
     let answer = match call {
         Call::ProofFromJson => RangeProof::from_json(alloc, &value),
+        Call::ProofFromBytes => RangeProof::from_bytes(alloc, &bytes),
         _ => RangeProof::from_flat(alloc, &counts, &nodes),
     };
     proof_outcome(alloc, answer, &expected)
@@ -123,6 +127,17 @@ fn to_flat(rt: &impl Abort, alloc: &Refusing, granted: u32, chunks: &Chunks<'_>)
             let is_right = lists.0 == counts && lists.1 == nodes;
             outcome_of(alloc, Ok(is_right), true)
         }
+        Err(error) => outcome_of(alloc, Err(error), true),
+    }
+}
+
+// Tries to return the bytes of a proof.
+fn to_bytes(rt: &impl Abort, alloc: &Refusing, granted: u32, chunks: &Chunks<'_>) -> Outcome {
+    let given = proof(alloc, chunks).expect(rt, "a proof");
+    let expected = given.to_bytes().expect(rt, "memory");
+    alloc.grant(granted);
+    match given.to_bytes() {
+        Ok(bytes) => outcome_of(alloc, Ok(bytes == expected), true),
         Err(error) => outcome_of(alloc, Err(error), true),
     }
 }
@@ -157,8 +172,11 @@ pub fn attempt(
     match call {
         Call::HashTree => make_tree(rt, alloc, granted, chunks),
         Call::Open | Call::OpenRoot => open(rt, call, alloc, granted, chunks),
-        Call::ProofFromJson | Call::ProofFromFlat => read(rt, call, alloc, granted, chunks),
+        Call::ProofFromJson | Call::ProofFromFlat | Call::ProofFromBytes => {
+            read(rt, call, alloc, granted, chunks)
+        }
         Call::ProofToFlat => to_flat(rt, alloc, granted, chunks),
+        Call::ProofToBytes => to_bytes(rt, alloc, granted, chunks),
         _ => make(rt, call, alloc, granted, chunks),
     }
 }
