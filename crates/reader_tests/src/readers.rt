@@ -80,8 +80,9 @@ fn take<'a>(
 ) {
     let mut part = part(rt, memory, file, first, end);
     let (from, to) = (first as usize * SIZE, end as usize * SIZE);
-    let bytes = part.check(data(rt, file, from, to));
-    assert!(rt; bytes.len() == to.saturating_sub(from));
+    let count = end.saturating_sub(first) as usize;
+    let all = data(rt, file, from, to);
+    assert!(rt; part.check(all, true) == Some(all) && part.right() == (count, to as u64));
     assert!(rt; kept.take(part));
 }
 
@@ -123,11 +124,11 @@ fn data_may_be_cut_off_anywhere(rt: HostRuntime) {
     for length in 0..41usize {
         let mut kept = reader(&rt, &memory, &file, 10_000);
         let mut cut = part(&rt, &memory, &file, 2, 6);
-        let whole = length / SIZE * SIZE;
-        assert!(rt;
-            cut.check(data(&rt, &file, 20, 20 + length)) == data(&rt, &file, 20, 20 + whole)
-        );
-        assert!(rt; kept.take(cut) && has(&rt, &mut kept, 20) == whole);
+        let whole = length / SIZE;
+        let bytes = data(&rt, &file, 20, 20 + length);
+        assert!(rt; cut.check(bytes, true).is_some() == (length == 40));
+        assert!(rt; cut.right() == (whole, 20 + whole as u64 * 10));
+        assert!(rt; kept.take(cut) && has(&rt, &mut kept, 20) == whole * SIZE);
     }
 }
 
@@ -142,8 +143,78 @@ fn a_wrong_chunk_ends_what_is_checked(rt: HostRuntime) {
         bytes[k] = k as u8;
     }
     bytes[15] = 16;
-    assert!(rt; wrong.check(&bytes).len() == 10);
+    assert!(rt; wrong.check(&bytes, true) == None && wrong.right() == (1, 10));
     assert!(rt; kept.take(wrong) && has(&rt, &mut kept, 0) == 10);
+}
+
+#[test]
+fn data_that_is_too_long_is_refused_and_its_chunks_are_kept(rt: HostRuntime) {
+    let memory = refusing(rt.alloc());
+    let file = make_file(&rt, &memory);
+    let mut kept = reader(&rt, &memory, &file, 10_000);
+    let mut long = part(&rt, &memory, &file, 0, 3);
+    assert!(rt; long.check(data(&rt, &file, 0, 31), true) == None && long.right() == (3, 30));
+    assert!(rt; kept.take(long) && has(&rt, &mut kept, 0) == 30);
+}
+
+#[test]
+fn chunks_that_are_not_to_be_kept_show_the_size_alone(rt: HostRuntime) {
+    let memory = refusing(rt.alloc());
+    let file = make_file(&rt, &memory);
+    let mut kept = reader(&rt, &memory, &file, 10_000);
+    let mut part = part(&rt, &memory, &file, 2, 6);
+    memory.grant(0);
+    let bytes = data(&rt, &file, 20, 60);
+    assert!(rt; part.check(bytes, false) == Some(bytes) && !memory.has_refused());
+    assert!(rt; part.right() == (4, 60) && part.file_size() == 100);
+    assert!(rt; kept.take(part) && kept.size() == Some(100) && kept.counted() == 0);
+    memory.grant(u32::MAX);
+}
+
+#[test]
+fn a_part_is_checked_again_with_other_data(rt: HostRuntime) {
+    let memory = refusing(rt.alloc());
+    let file = make_file(&rt, &memory);
+    let mut kept = reader(&rt, &memory, &file, 10_000);
+    let mut part = part(&rt, &memory, &file, 2, 4);
+    assert!(rt; part.check(data(&rt, &file, 30, 50), true) == None && part.right() == (0, 20));
+    let bytes = data(&rt, &file, 20, 40);
+    assert!(rt; part.check(bytes, true) == Some(bytes) && part.right() == (2, 40));
+    assert!(rt; kept.take(part) && kept.counted() == 2 * COUNTS);
+}
+
+// Opens the proof of one chunk without data, for some bytes, and gives it to a reader. Returns the size that is known then.
+fn size_of_empty(rt: &impl Abort, memory: Memory<'_>, from: u64, to: u64) -> Option<u64> {
+    let chunks = [(compute_data_hash(b""), 0)];
+    let hash = file_hash(memory, &chunks).expect(rt, "a file hash");
+    let tree = HashTree::from_chunks(memory, &chunks).expect(rt, "a tree");
+    let proof = tree.proof(memory, 0, 1).expect(rt, "a proof");
+    let mut kept = VerifiedReader::new(memory, &hash, &SALT, 10_000).expect(rt, "a reader");
+    let mut part = WantedPart::open(memory, proof, &hash, &SALT, from, to, 0).expect(rt, "a part");
+    assert!(rt; part.places() == (0, 0) && part.check(b"", true) == Some(b""));
+    assert!(rt; kept.take(part) && kept.needs(from, to, 100) == None);
+    kept.size()
+}
+
+#[test]
+fn a_file_of_chunks_without_data_has_size_0(rt: HostRuntime) {
+    let memory = refusing(rt.alloc());
+    assert!(rt; size_of_empty(&rt, &memory, 0, 9) == Some(0));
+    assert!(rt; size_of_empty(&rt, &memory, 5, 9) == Some(0));
+}
+
+#[test]
+fn a_lower_limit_drops_what_was_used_longest_ago(rt: HostRuntime) {
+    let memory = refusing(rt.alloc());
+    let file = make_file(&rt, &memory);
+    let mut kept = reader(&rt, &memory, &file, COUNTS);
+    kept.keep_at_most(10_000);
+    take(&rt, &memory, &file, &mut kept, 0, 5);
+    assert!(rt; kept.counted() == 5 * COUNTS && has(&rt, &mut kept, 1) == 49);
+    kept.keep_at_most(2 * COUNTS + 1);
+    assert!(rt; kept.counted() == 2 * COUNTS && has(&rt, &mut kept, 30) == 20);
+    take(&rt, &memory, &file, &mut kept, 0, 2);
+    assert!(rt; kept.counted() == 2 * COUNTS && has(&rt, &mut kept, 0) == 20);
 }
 
 #[test]
@@ -175,7 +246,7 @@ fn more_chunks_than_may_be_kept_leave_the_last_ones(rt: HostRuntime) {
 }
 
 #[test]
-fn what_is_missing_goes_from_gap_to_gap(rt: HostRuntime) {
+fn what_is_missing_begins_at_the_first_byte_that_is_not_kept(rt: HostRuntime) {
     let memory = refusing(rt.alloc());
     let file = make_file(&rt, &memory);
     let mut kept = reader(&rt, &memory, &file, 10_000);
@@ -183,12 +254,11 @@ fn what_is_missing_goes_from_gap_to_gap(rt: HostRuntime) {
     take(&rt, &memory, &file, &mut kept, 2, 4);
     take(&rt, &memory, &file, &mut kept, 6, 7);
     assert!(rt;
-        kept.needs(5, 1_000, 50) == Some((5, 20)) && kept.needs(5, 15, 50) == Some((5, 15))
+        kept.needs(5, 1_000, 50) == Some((5, 55)) && kept.needs(5, 15, 50) == Some((5, 15))
     );
-    assert!(rt; kept.needs(25, 1_000, 50) == Some((40, 60)) && kept.needs(25, 40, 50) == None);
-    assert!(rt;
-        kept.needs(65, 1_000, 20) == Some((70, 90)) && kept.needs(65, 1_000, 50) == Some((70, 100))
-    );
+    assert!(rt; kept.needs(25, 1_000, 50) == Some((40, 90)) && kept.needs(25, 40, 50) == None);
+    assert!(rt; kept.needs(65, 1_000, 20) == Some((70, 90)));
+    assert!(rt; kept.needs(65, u64::MAX, u64::MAX) == Some((70, 100)));
     assert!(rt; kept.needs(99, 1_000, 0) == Some((99, 100)) && kept.needs(100, 1_000, 50) == None);
 }
 
@@ -215,10 +285,13 @@ fn a_proof_of_something_else_is_refused(rt: HostRuntime) {
     let file = make_file(&rt, &memory);
     let other = MerkleHash::from([1, 2, 3, 4]);
     assert!(rt; fault(&rt, &memory, &file, &other, 20, 60, 0) == Some(PartFault::Mismatch));
-    assert!(rt; fault(&rt, &memory, &file, &file.hash, 19, 60, 9) == Some(PartFault::Elsewhere));
-    assert!(rt; fault(&rt, &memory, &file, &file.hash, 20, 61, 9) == Some(PartFault::Elsewhere));
-    assert!(rt; fault(&rt, &memory, &file, &file.hash, 30, 30, 9) == Some(PartFault::Elsewhere));
-    assert!(rt; fault(&rt, &memory, &file, &file.hash, 25, 55, 4) == Some(PartFault::TooFar));
+    let elsewhere = Some(PartFault::Elsewhere(20, 60));
+    assert!(rt; fault(&rt, &memory, &file, &file.hash, 19, 60, 9) == elsewhere);
+    assert!(rt; fault(&rt, &memory, &file, &file.hash, 20, 61, 9) == elsewhere);
+    assert!(rt; fault(&rt, &memory, &file, &file.hash, 30, 30, 9) == elsewhere);
+    assert!(rt; fault(&rt, &memory, &file, &file.hash, 100, 200, 99) == elsewhere);
+    let too_far = Some(PartFault::TooFar(20, 60));
+    assert!(rt; fault(&rt, &memory, &file, &file.hash, 25, 55, 4) == too_far);
     assert!(rt; fault(&rt, &memory, &file, &file.hash, 25, 55, 5) == None);
 }
 
@@ -230,7 +303,9 @@ fn the_end_of_the_file_ends_a_part(rt: HostRuntime) {
     let mut last = WantedPart::open(&memory, proof, &file.hash, &SALT, 95, 1_000, 5).expect(
         &rt, "a part",
     );
-    assert!(rt; last.check(data(&rt, &file, 90, 100)) == data(&rt, &file, 95, 100));
+    let wanted = data(&rt, &file, 95, 100);
+    assert!(rt; last.places() == (90, 100) && last.skipped() == 5);
+    assert!(rt; last.check(data(&rt, &file, 90, 100), true) == Some(wanted));
 }
 
 #[test]
@@ -240,7 +315,7 @@ fn refused_memory_leaves_a_reader_as_it_was(rt: HostRuntime) {
     let mut kept = reader(&rt, &memory, &file, 10_000);
     for granted in 0..2u32 {
         let mut part = part(&rt, &memory, &file, 2, 3);
-        assert!(rt; part.check(data(&rt, &file, 20, 30)).len() == 10);
+        assert!(rt; part.check(data(&rt, &file, 20, 30), true).is_some());
         memory.grant(granted);
         assert!(rt; kept.take(part) && memory.has_refused());
         assert!(rt; kept.counted() == 0 && has(&rt, &mut kept, 20) == 0);
@@ -251,15 +326,17 @@ fn refused_memory_leaves_a_reader_as_it_was(rt: HostRuntime) {
 }
 
 #[test]
-fn refused_memory_ends_what_is_checked(rt: HostRuntime) {
+fn refused_memory_leaves_chunks_out_that_are_right(rt: HostRuntime) {
     let memory = refusing(rt.alloc());
     let file = make_file(&rt, &memory);
+    let mut kept = reader(&rt, &memory, &file, 10_000);
     let mut part = part(&rt, &memory, &file, 2, 6);
-    memory.grant(3);
-    let checked = part.check(data(&rt, &file, 20, 60)).len();
-    assert!(rt; memory.has_refused() && checked < 40 && checked % SIZE == 0);
+    let bytes = data(&rt, &file, 20, 60);
+    memory.grant(0);
+    assert!(rt; part.check(bytes, true) == Some(bytes) && memory.has_refused());
     memory.grant(u32::MAX);
-    assert!(rt; part.check(data(&rt, &file, 20, 60)).len() == 40);
+    assert!(rt; part.right() == (4, 60) && kept.take(part));
+    assert!(rt; kept.size() == Some(100) && kept.counted() == 0);
 }
 
 #[test]
@@ -269,6 +346,6 @@ fn a_part_of_another_file_is_not_taken(rt: HostRuntime) {
     let other = MerkleHash::from([1, 2, 3, 4]);
     let mut kept = VerifiedReader::new(&memory, &other, &SALT, 10_000).expect(&rt, "a reader");
     let mut part = part(&rt, &memory, &file, 2, 3);
-    assert!(rt; part.check(data(&rt, &file, 20, 30)).len() == 10);
+    assert!(rt; part.check(data(&rt, &file, 20, 30), true).is_some() && !kept.is_part(&part));
     assert!(rt; !kept.take(part) && kept.size() == None && kept.counted() == 0);
 }

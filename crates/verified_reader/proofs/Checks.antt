@@ -7,7 +7,7 @@ use Rattle.std.proofs.lemmas.List.Elements.{All-contains, All-contains_itself, A
 use Rattle.std.proofs.lemmas.List.Sums.{sum_by-append, sum_by-cons}
 use Rattle.range_proof.specs.RangeProof.{file_size_of}
 use Rattle.verified_reader.specs.Kept.{AreUsed, Chunk, IsUsed, Keeps, KeepsAll, size_of_kept}
-use Rattle.verified_reader.specs.Reader.{AreAdjacent, Check, IsChecked, IsCheckedBy, IsPartOf, IsShownBy, IsSizeOfFile, Part, Reader, checks_of}
+use Rattle.verified_reader.specs.Reader.{Check, IsChecked, IsCheckedBy, IsPartOf, IsShownBy, IsSizeOfFile, Part, Reader, checks_of}
 use Rattle.verified_reader.proofs.Entries.{of_map}
 use Rattle.verified_reader.proofs.Pieces.{of_size}
 use Rattle.verified_reader.proofs.Reading.{used_member, used_members}
@@ -52,23 +52,11 @@ own_checks part checked = all_from (IsChecked (checks_of part) part.hash part.sa
   checked = All-contains (IsCheckedBy part.proof part.hash part.salt) part.checked chunk checked among;
 })
 
--- one more chunk
-pub adjacent_push : {place : ℕ} {chunks : List Chunk} {bytes : List ℕ} (chunk : Chunk) → AreAdjacent place chunks bytes → chunk.begin ≡ place + length bytes →
-    AreAdjacent place (chunks ++ chunk ∷ []) (bytes ++ chunk.bytes)
-adjacent_push {place} chunk AreAdjacent.none begins =
-    let here : chunk.begin ≡ place = omega (arith, begins) in
-    subst (λ (b : ℕ). AreAdjacent place (record { begin = b; bytes = chunk.bytes } ∷ []) chunk.bytes) (sym here)
-    (subst (λ (l : List ℕ). AreAdjacent place (record { begin = place; bytes = chunk.bytes } ∷ []) l) (append-nil chunk.bytes) (AreAdjacent.more AreAdjacent.none))
-adjacent_push chunk (AreAdjacent.more {place} {bytes} {rest} {chunks} later) begins =
-    let next : chunk.begin ≡ (place + length bytes) + length rest = omega (arith, begins, length-append bytes rest) in
-    subst (λ (l : List ℕ). AreAdjacent place (record { begin = place; bytes = bytes } ∷ chunks ++ chunk ∷ []) l) (sym (append_assoc bytes rest chunk.bytes))
-    (AreAdjacent.more (adjacent_push chunk later next))
-
 -- ---- What a reader keeps
 
 -- a chunk that is kept was kept before, or is the new one
 kept_member : (most : ℕ) (old new : List Chunk) (chunk : Chunk) → Keeps most old chunk new → (c : Chunk) → Contains new c → Contains old c ⊎ (chunk ≡ c)
-kept_member most old new chunk (Keeps.kept free drops) c among =
+kept_member most old new chunk (Keeps.kept some small fits free drops) c among =
     let xs = old ++ chunk ∷ [] in
     let dropped = subst (λ l. Contains l c) drops.new_is among in
     Contains-push_cases old chunk c (subst (λ l. Contains l c) (take-append-drop drops.dropped xs) (Contains-append_right (take drops.dropped xs) (drop drops.dropped xs) c dropped))
@@ -109,7 +97,7 @@ used_size old new place u =
 pub used_sizes : (old : List Chunk) (from to : ℕ) (new : List Chunk) → AreUsed old from to new → size_of_kept new ≡ size_of_kept old
 used_sizes old from to new AreUsed.none = refl
 used_sizes old from to new (AreUsed.more {between} {place} before near past u) =
-    used_size between new place u ∙ used_sizes old from to between before
+    used_size between new place u ∙ used_sizes old from place between before
 
 -- what holds of each chunk holds of each when some were used
 pub used_checked : (P : Chunk → Type 0) (old : List Chunk) (from to : ℕ) (new : List Chunk) → AreUsed old from to new → All P old → All P new
@@ -123,7 +111,7 @@ used_shown checks old new from to same used shown =
     (record { kept = used_checked (IsChecked checks old.hash old.salt) old.kept from to new.kept used shown.kept; size = shown.size })
 
 kept_size : (most : ℕ) (old new : List Chunk) (chunk : Chunk) → size_of_kept old ≤ most → Keeps most old chunk new → size_of_kept new ≤ most
-kept_size most old new chunk within (Keeps.kept free drops) = drops.fits
+kept_size most old new chunk within (Keeps.kept some small fits free drops) = drops.fits
 kept_size most old new chunk within (Keeps.used (inl u) there) = subst (λ (n : ℕ). n ≤ most) (sym (used_size old new chunk.begin u)) within
 kept_size most old new chunk within (Keeps.used (inr same) there) = subst (λ l. size_of_kept l ≤ most) (sym same) within
 kept_size most old new chunk within (Keeps.empty none) = within
@@ -144,10 +132,6 @@ pub ok_or_err : {T E P Q : Type 0} (r : Result T E) → OnOk r P → OnErr r Q �
 ok_or_err (Ok x) holds other = inl holds
 ok_or_err (Err e) holds other = inr other
 
-some_chunk : (chunks : List Chunk) → 0 < length chunks → (chunk : Chunk) × Contains chunks chunk
-some_chunk [] some = absurd (omega (arith, some))
-some_chunk (chunk ∷ chunks) some = (chunk, Contains-get_or (chunk ∷ chunks) 0 chunk some)
-
 -- what more checks show
 pub shown_too : (checks more : List Check) (reader : Reader) → AreAmong checks more → IsShownBy checks reader → IsShownBy more reader
 shown_too checks more reader are shown = record {
@@ -156,43 +140,51 @@ shown_too checks more reader are shown = record {
   size = sizes_too checks more reader.hash reader.salt reader.size are shown.size;
 }
 
--- a reader after its part was taken is shown by the part's checks, too
+-- a reader after its part was taken is shown by the part's checks, too, and by one more check of its proof
 pub taken_shown : (checks : List Check) (old : Reader) (part : Part) (kept : List Chunk) (size : Option ℕ) → IsShownBy checks old → IsPartOf old part →
     All (IsCheckedBy part.proof part.hash part.salt) part.checked → ((c : Chunk) → Contains kept c → Contains old.kept c ⊎ Contains part.checked c) →
-    (0 < length part.checked → size ≡ Some (file_size_of part.proof)) → (length part.checked ≡ 0 → size ≡ old.size) →
-    IsShownBy (checks_of part ++ checks) (record old { kept = kept; size = size })
-taken_shown checks old part kept size shown is by members some none = record {
-  kept = all_from (IsChecked more old.hash old.salt) kept (λ c among. elim (members c among) [
-    | inl was ↦ checked_too checks more old.hash old.salt c right (All-contains (IsChecked checks old.hash old.salt) old.kept c shown.kept was)
-    | inr one ↦ checked_too (checks_of part) more old.hash old.salt c left (own c one)
-  ]);
-  size = elim (cases_lt 0 (length part.checked)) [
-    | inl nonempty ↦ subst (λ (s : Option ℕ). IfSome s (IsSizeOfFile more old.hash old.salt)) (sym (some nonempty)) (new_size nonempty)
-    | inr empty ↦ subst (λ (s : Option ℕ). IfSome s (IsSizeOfFile more old.hash old.salt)) (sym (none (omega (arith, empty))))
-        (sizes_too checks more old.hash old.salt old.size right shown.size)
-  ];
-}
+    (0 < part.right → (chunk : Chunk) × IsCheckedBy part.proof part.hash part.salt chunk) →
+    (0 < part.right → size ≡ Some (file_size_of part.proof)) → (part.right ≡ 0 → size ≡ old.size) →
+    (check : Check) × (check.proof ≡ part.proof) × IsShownBy (check ∷ checks_of part ++ checks) (record old { kept = kept; size = size })
+taken_shown checks old part kept size shown is by members one some none = elim (cases_lt 0 part.right) [
+  | inl right ↦
+      let (chunk, checked) = one right in
+      let check : Check = record { proof = part.proof; bytes = chunk.bytes } in
+      let all = check ∷ checks_of part ++ checks in
+      let size_is = of_size all part.hash part.salt chunk part.proof checked (Contains-get_or all 0 check (omega arith)) in (
+        check,
+        refl,
+        with_size check (subst (λ (s : Option ℕ). IfSome s (IsSizeOfFile all old.hash old.salt)) (sym (some right))
+            (subst (λ (s : List ℕ). IsSizeOfFile all old.hash s (file_size_of part.proof)) is.salt
+            (subst (λ (h : List ℕ). IsSizeOfFile all h part.salt (file_size_of part.proof)) is.hash size_is))),
+      )
+  | inr empty ↦
+      let check : Check = record { proof = part.proof; bytes = [] } in (
+        check,
+        refl,
+        with_size check (subst (λ (s : Option ℕ). IfSome s (IsSizeOfFile (check ∷ checks_of part ++ checks) old.hash old.salt)) (sym (none (omega (arith, empty))))
+            (sizes_too checks (check ∷ checks_of part ++ checks) old.hash old.salt old.size (right check) shown.size)),
+      )
+]
   where
-    more : List Check
-    more = checks_of part ++ checks
+    left : (check : Check) → AreAmong (checks_of part) (check ∷ checks_of part ++ checks)
+    left check c among = Contains-append_right (check ∷ []) (checks_of part ++ checks) c (Contains-append_left (checks_of part) checks c among)
 
-    left : AreAmong (checks_of part) more
-    left check among = Contains-append_left (checks_of part) checks check among
-
-    right : AreAmong checks more
-    right check among = Contains-append_right (checks_of part) checks check among
+    right : (check : Check) → AreAmong checks (check ∷ checks_of part ++ checks)
+    right check c among = Contains-append_right (check ∷ []) (checks_of part ++ checks) c (Contains-append_right (checks_of part) checks c among)
 
     own : (c : Chunk) → Contains part.checked c → IsChecked (checks_of part) old.hash old.salt c
-    own c one =
+    own c one' =
         subst (λ (s : List ℕ). IsChecked (checks_of part) old.hash s c) is.salt
         (subst (λ (h : List ℕ). IsChecked (checks_of part) h part.salt c) is.hash
-        (All-contains (IsChecked (checks_of part) part.hash part.salt) part.checked c (own_checks part by) one))
+        (All-contains (IsChecked (checks_of part) part.hash part.salt) part.checked c (own_checks part by) one'))
 
-    new_size : 0 < length part.checked → IsSizeOfFile more old.hash old.salt (file_size_of part.proof)
-    new_size nonempty =
-        let (chunk, among) = some_chunk part.checked nonempty in
-        let size = of_size (checks_of part) part.hash part.salt chunk part.proof
-        (All-contains (IsCheckedBy part.proof part.hash part.salt) part.checked chunk by among) (check_among part chunk among) in
-        size_too (checks_of part) more old.hash old.salt (file_size_of part.proof) left
-        (subst (λ (s : List ℕ). IsSizeOfFile (checks_of part) old.hash s (file_size_of part.proof)) is.salt
-        (subst (λ (h : List ℕ). IsSizeOfFile (checks_of part) h part.salt (file_size_of part.proof)) is.hash size))
+    with_size : (check : Check) → IfSome size (IsSizeOfFile (check ∷ checks_of part ++ checks) old.hash old.salt) →
+        IsShownBy (check ∷ checks_of part ++ checks) (record old { kept = kept; size = size })
+    with_size check size_is = record {
+      kept = all_from (IsChecked (check ∷ checks_of part ++ checks) old.hash old.salt) kept (λ c among. elim (members c among) [
+        | inl was ↦ checked_too checks (check ∷ checks_of part ++ checks) old.hash old.salt c (right check) (All-contains (IsChecked checks old.hash old.salt) old.kept c shown.kept was)
+        | inr new ↦ checked_too (checks_of part) (check ∷ checks_of part ++ checks) old.hash old.salt c (left check) (own c new)
+      ]);
+      size = size_is;
+    }

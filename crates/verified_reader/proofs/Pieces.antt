@@ -10,7 +10,7 @@ use Rattle.range_proof.specs.RangeProof.{Proof, begin_of, file_size_of}
 use Rattle.range_proof.specs.Reading.{bytes_of_chunks}
 use Rattle.range_proof.specs.Soundness.{HasChunksAt}
 use Rattle.verified_reader.specs.Kept.{AreKeptAt, Chunk, HasPlace}
-use Rattle.verified_reader.specs.Reader.{AreAdjacent, AreOfFile, Check, HasBytesAt, IsChecked, IsCheckedBy, IsSizeOfFile}
+use Rattle.verified_reader.specs.Reader.{AreOfFile, Check, HasBytesAt, IsChecked, IsCheckedBy, IsSizeOfFile}
 
 -- ---- Bytes
 
@@ -147,29 +147,3 @@ of_kept checks hash salt kept place (byte ∷ bytes) all are =
         subst (λ (l : List ℕ). AreOfFile checks hash salt place l) first
         (of_first checks hash salt place 1 (drop n chunk.bytes) (omega (arith, length-drop n chunk.bytes, within))
         (subst (λ (p : ℕ). AreOfFile checks hash salt p (drop n chunk.bytes)) here rest))
-
--- adjacent chunks that were checked are the file's
-pub of_adjacent : (checks : List Check) (hash salt : List ℕ) {place : ℕ} {chunks : List Chunk} {bytes : List ℕ} →
-    All (IsChecked checks hash salt) chunks → AreAdjacent place chunks bytes → AreOfFile checks hash salt place bytes
-of_adjacent checks hash salt {place} all AreAdjacent.none = of_none checks hash salt place
-of_adjacent checks hash salt all (AreAdjacent.more {place} {bytes} {rest} {chunks} later) =
-    let chunk : Chunk = record { begin = place; bytes = bytes } in
-    of_both checks hash salt place bytes rest
-    (of_checked checks hash salt chunk (All-head (IsChecked checks hash salt) chunk chunks all))
-    (of_adjacent checks hash salt (All-tail (IsChecked checks hash salt) chunk chunks all) later)
-
--- some of the bytes are the file's, too
-pub of_slice : (checks : List Check) (hash salt : List ℕ) (place a k : ℕ) (bytes : List ℕ) → AreOfFile checks hash salt place bytes →
-    AreOfFile checks hash salt (place + a) (take k (drop a bytes))
-of_slice checks hash salt place a k bytes h = elim (cases_lt (length bytes) a) [
-  | inl past ↦
-      let none : drop a bytes ≡ [] = drop_all a bytes (omega (arith, past)) in
-      let none_too : take k (drop a bytes) ≡ [] = ap (take k) none ∙ take_all k [] (omega arith) in
-      subst (λ (l : List ℕ). AreOfFile checks hash salt (place + a) l) (sym none_too) (of_none checks hash salt (place + a))
-  | inr within ↦
-      let rest = of_rest checks hash salt place a bytes within h in
-      elim (cases_lt (length (drop a bytes)) k) [
-        | inl all ↦ subst (λ (l : List ℕ). AreOfFile checks hash salt (place + a) l) (sym (take_all k (drop a bytes) (omega (arith, all)))) rest
-        | inr some ↦ of_first checks hash salt (place + a) k (drop a bytes) some rest
-      ]
-]

@@ -7,7 +7,7 @@ use Rattle.std.proofs.lemmas.Bool.{cases_lt}
 use Rattle.std.proofs.lemmas.List.{get_or-append_right, get_or-drop, get_or-take, get_or_append_left, length-drop, length-take-le}
 use Rattle.std.proofs.lemmas.List.Elements.{Contains-append_cases, Contains-append_left, Contains-append_right}
 use Rattle.std.proofs.lemmas.List.Sums.{sum_by-cons}
-use Rattle.verified_reader.specs.Kept.{AllKept, AreKeptAt, AreKeptFrom, AreUsed, Chunk, IsFirstGap, IsKept, IsUsed, end_of, size_of_kept}
+use Rattle.verified_reader.specs.Kept.{AllKept, AreKeptAt, AreKeptFrom, AreUsed, Chunk, IsUsed, size_of_kept}
 
 -- bytes that are kept, and some of those that are kept after them
 pub kept_more : (kept : List Chunk) (place n : ℕ) (bytes part : List ℕ) → n ≤ length part → AreKeptAt kept place bytes →
@@ -60,20 +60,19 @@ pub used_members : (old : List Chunk) (from to : ℕ) (new : List Chunk) → Are
 used_members old from to new AreUsed.none chunk = (λ among. among, λ among. among)
 used_members old from to new (AreUsed.more {between} {place} before near past u) chunk =
     let one = used_member between new place u chunk in
-    let others = used_members old from to between before chunk in
+    let others = used_members old from place between before chunk in
     (λ among. others.0 (one.0 among), λ among. one.1 (others.1 among))
 
 -- up to a later place, too
 used_later : (old : List Chunk) (from to later : ℕ) (new : List Chunk) → to ≤ later → AreUsed old from to new → AreUsed old from later new
 used_later old from to later new upto AreUsed.none = AreUsed.none
-used_later old from to later new upto (AreUsed.more {between} before near past u) =
-    AreUsed.more (used_later old from to later between upto before) near (omega (arith, past, upto)) u
+used_later old from to later new upto (AreUsed.more before near past u) = AreUsed.more before near (omega (arith, past, upto)) u
 
 pub used_more : (old : List Chunk) (from to later place : ℕ) (between new : List Chunk) → AreUsed old from to between →
-    IsUsed between place new ⊎ (new ≡ between) → from ≤ place → place < later → to ≤ later → AreUsed old from later new
-used_more old from to later place between new before (inl u) near past upto = AreUsed.more (used_later old from to later between upto before) near past u
+    IsUsed between place new ⊎ (new ≡ between) → from ≤ place → place < later → to ≤ place → AreUsed old from later new
+used_more old from to later place between new before (inl u) near past upto = AreUsed.more (used_later old from to place between upto before) near past u
 used_more old from to later place between new before (inr same) near past upto =
-    subst (λ l. AreUsed old from later l) (sym same) (used_later old from to later between upto before)
+    subst (λ l. AreUsed old from later l) (sym same) (used_later old from to later between (omega (arith, past, upto)) before)
 
 -- some bytes are kept from a place that is kept
 pub some_bytes : (kept : List Chunk) (place : ℕ) (bytes : List ℕ) → AreKeptFrom kept place bytes → 0 < length bytes
@@ -101,39 +100,6 @@ all_more kept from place next bytes all (chunk, among, has, is) upto = λ q near
       let size : length bytes ≡ length chunk.bytes - (place - chunk.begin) = ap length is ∙ length-drop (place - chunk.begin) chunk.bytes in
       (chunk, among, record { begin = omega (arith, begins, late); end = omega (arith, begins, ends, size, late, below, upto) })
 ]
-
--- a gap goes from a byte that isn't kept to where the next chunk begins
-pub first_gap : (kept : List Chunk) (from place next end to : ℕ) → from ≤ place → place < to → AllKept kept from place → (IsKept kept place → ⊥) →
-    place + 1 ≤ next → ((chunk : Chunk) → Contains kept chunk → place + 1 ≤ chunk.begin → next ≤ chunk.begin) → end ≡ min to next → IsFirstGap kept from to place end
-first_gap kept from place next end to near within all gone ahead least is = record {
-  begins = near;
-  some = omega (arith, within, ahead, is);
-  ends = omega (arith, is);
-  before = all;
-  free = λ chunk among. elim (cases_lt place chunk.begin) [
-    | inl later ↦ let all = least chunk among (omega (arith, later)) in inr (omega (arith, all, is))
-    | inr begun ↦ elim (cases_lt place (end_of chunk)) [
-      | inl here ↦ absurd (gone (chunk, among, record { begin = begun; end = here }))
-      | inr past ↦ inl past
-    ]
-  ];
-}
-
--- so does a shorter one
-pub shorter_gap : (kept : List Chunk) (from to first end sooner : ℕ) → IsFirstGap kept from to first end → first < sooner → sooner ≤ end →
-    IsFirstGap kept from to first sooner
-shorter_gap kept from to first end sooner gap some upto =
-    let ends = gap.ends in
-    record {
-      begins = gap.begins;
-      some = some;
-      ends = omega (arith, ends, upto);
-      before = gap.before;
-      free = λ chunk among. elim (gap.free chunk among) [
-        | inl past ↦ inl past
-        | inr later ↦ inr (omega (arith, later, upto))
-      ];
-    }
 
 -- ---- Numbers
 

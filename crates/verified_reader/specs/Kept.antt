@@ -31,13 +31,12 @@ IsFree kept begin end = (chunk : Chunk) → Contains kept chunk → (end_of chun
 abbrev pub AllKept : List Chunk → ℕ → ℕ → Type 0
 AllKept kept from to = (place : ℕ) → from ≤ place → place < to → IsKept kept place
 
--- the first places from one place on and below another between which no byte is kept
-pub record IsFirstGap (kept : List Chunk) (from to first end : ℕ) : Type 0 where
+-- the first place from one place on and below another whose byte isn't kept
+pub record IsFirstMissing (kept : List Chunk) (from to first : ℕ) : Type 0 where
   pub begins : from ≤ first
-  pub some : first < end
-  pub ends : end ≤ to
+  pub within : first < to
   pub before : AllKept kept from first
-  pub free : IsFree kept first end
+  pub missing : ¬ (IsKept kept first)
 
 -- what chunks count: their bytes, and 128 for each
 abbrev pub size_of_kept : List Chunk → ℕ
@@ -57,10 +56,10 @@ abbrev pub AreKeptAt : List Chunk → ℕ → List ℕ → Type 0
 AreKeptAt kept place bytes = (k : ℕ) → k < length bytes → (chunk : Chunk) × Contains kept chunk × HasPlace chunk (place + k)
     × (slice_index chunk.bytes ((place + k) - chunk.begin) ≡ slice_index bytes k)
 
--- some chunks that have a byte from one place to another are used, one after another
-pub data AreUsed (old : List Chunk) (from to : ℕ) : List Chunk → Type 0 where
-  none : AreUsed old from to old
-  more : {between new : List Chunk} {place : ℕ} → AreUsed old from to between → from ≤ place → place < to → IsUsed between place new →
+-- some chunks that have a byte from one place to another are used, in the order of these bytes
+pub data AreUsed (old : List Chunk) (from : ℕ) : ℕ → List Chunk → Type 0 where
+  none : {to : ℕ} → AreUsed old from to old
+  more : {between new : List Chunk} {place to : ℕ} → AreUsed old from place between → from ≤ place → place < to → IsUsed between place new →
       AreUsed old from to new
 
 -- the chunks that were used longest ago are dropped until all count at most `most`, and no more of them
@@ -73,7 +72,8 @@ pub record DropsOldest (most : ℕ) (old new : List Chunk) : Type 0 where
 -- a chunk is kept, and all count at most `most`. If a chunk with its first byte is kept, that one is used. A chunk that is
 -- empty, that counts more than `most`, that ends past 64 bits, or that has a byte that is kept, isn't kept
 pub data Keeps (most : ℕ) (old : List Chunk) (chunk : Chunk) : List Chunk → Type 0 where
-  kept : {new : List Chunk} → IsFree old chunk.begin (end_of chunk) → DropsOldest most (old ++ chunk ∷ []) new → Keeps most old chunk new
+  kept : {new : List Chunk} → 0 < length chunk.bytes → length chunk.bytes + 128 ≤ most → end_of chunk < 2 ^ 64 →
+      IsFree old chunk.begin (end_of chunk) → DropsOldest most (old ++ chunk ∷ []) new → Keeps most old chunk new
   used : {new : List Chunk} → IsUsed old chunk.begin new ⊎ (new ≡ old) → IsKept old chunk.begin → Keeps most old chunk new
   empty : length chunk.bytes ≡ 0 → Keeps most old chunk old
   large : most < length chunk.bytes + 128 → Keeps most old chunk old

@@ -1,12 +1,14 @@
 -- What was checked of a file, and what that says of the bytes and the size that are handed out.
-use Rattle.std.specs.Prelude.{◌≡◌, ◌⊎◌, ℕ, ◌+◌, ◌-◌, ◌<◌, ◌≤◌, List, [], ◌∷◌, ◌++◌, Option, None, Some, IfSome, All, Contains, length, map, min, take, slice_range}
-use Rattle.commitment.specs.Commitment.{chunk_nodes, HashedForFile, Collision}
+use Rattle.std.specs.Prelude.{◌≡◌, ◌⊎◌, ℕ, ◌+◌, ◌-◌, ◌<◌, ◌≤◌, List, [], ◌∷◌, ◌++◌, Option, None, Some, IfSome, All, Contains, length, map, min, take, slice_get, slice_range, ⊤}
+use Rattle.commitment.specs.Commitment.{chunk_node, chunk_nodes, HashedForFile, Collision}
 use Rattle.xet_roots.specs.Roots.{IsFileHash}
 use Rattle.range_proof.specs.RangeProof.{Proof, Shows, begin_of, file_size_of}
 use Rattle.range_proof.specs.Reading.{bytes_of_chunks}
 use Rattle.range_proof.specs.Checking.{IsSoundCheck}
 use Rattle.range_proof.specs.Soundness.{CheckedForFile}
 use Rattle.verified_reader.specs.Kept.{Chunk}
+use Rattle.verified_reader.specs.declared.part_fault.PartFault.{PartFault}
+use Rattle.verified_reader.specs.declared.part_fault.PartFault.TheVariants.{Mismatch, Elsewhere, TooFar, OutOfMemory}
 
 -- a check: the proof that was given, and the data that was checked as that of one of its chunks
 pub record Check : Type 0 where
@@ -65,24 +67,19 @@ pub record IsShownBy (checks : List Check) (reader : Reader) : Type 0 where
   pub size : IfSome reader.size (IsSizeOfFile checks reader.hash reader.salt)
 
 -- a part of a file that was asked for: the file hash and salt, a proof that shows them, the places from which and up to which
--- bytes are wanted, and the chunks that were checked
+-- bytes are wanted, how many of the proof's first chunks were right, and those of them that are copied
 pub record Part : Type 0 where
   pub hash : List ℕ
   pub salt : List ℕ
   pub proof : Proof
   pub from : ℕ
   pub to : ℕ
+  pub right : ℕ
   pub checked : List Chunk
 
 -- the checks of a part's chunks
 abbrev pub checks_of : Part → List Check
 checks_of part = map (λ chunk. record { proof = part.proof; bytes = chunk.bytes }) part.checked
-
--- chunks are adjacent from a place on, and have some bytes together
-pub data AreAdjacent : ℕ → List Chunk → List ℕ → Type 0 where
-  none : {place : ℕ} → AreAdjacent place [] []
-  more : {place : ℕ} {bytes rest : List ℕ} {chunks : List Chunk} → AreAdjacent (place + length bytes) chunks rest →
-      AreAdjacent place (record { begin = place; bytes = bytes } ∷ chunks) (bytes ++ rest)
 
 -- a part is of a reader's file: it has the same file hash and salt, and its proof no other size than the one that is known
 pub record IsPartOf (reader : Reader) (part : Part) : Type 0 where
@@ -90,24 +87,60 @@ pub record IsPartOf (reader : Reader) (part : Part) : Type 0 where
   pub salt : part.salt ≡ reader.salt
   pub size : IfSome reader.size (λ size. size ≡ file_size_of part.proof)
 
--- a reader has the size of the file from a part, if a chunk of it was checked
+-- a reader has the size of the file from a part, if a chunk of it was right
 pub record HasLearned (old : Reader) (part : Part) (new : Reader) : Type 0 where
-  pub some : 0 < length part.checked → new.size ≡ Some (file_size_of part.proof)
-  pub none : length part.checked ≡ 0 → new.size ≡ old.size
+  pub some : 0 < part.right → new.size ≡ Some (file_size_of part.proof)
+  pub none : part.right ≡ 0 → new.size ≡ old.size
 
--- the range of a proof holds the bytes from one place to another, or to the end of the file. There is one
+-- the range of a proof goes from one place to another
+pub record GoesFrom (proof : Proof) (begin end : ℕ) : Type 0 where
+  pub begin_is : begin ≡ begin_of proof 0
+  pub end_is : end ≡ begin_of proof (length proof.chunks)
+
+-- the range of a proof holds the bytes of the file from one place to another, or to the end of the file. There is one, or the
+-- file has none
 pub record HoldsPlaces (proof : Proof) (from to : ℕ) : Type 0 where
-  pub begin : begin_of proof 0 ≤ from
-  pub some : from < min to (file_size_of proof)
+  pub begin : begin_of proof 0 ≤ min from (file_size_of proof)
   pub end : min to (file_size_of proof) ≤ begin_of proof (length proof.chunks)
+  pub some : 0 < file_size_of proof → from < min to (file_size_of proof)
 
 -- it begins more than some bytes before them, or ends more than that after them
 abbrev pub IsFarFrom : Proof → ℕ → ℕ → ℕ → Type 0
-IsFarFrom proof from to beyond = (beyond < from - begin_of proof 0) ⊎ (beyond < begin_of proof (length proof.chunks) - min to (file_size_of proof))
+IsFarFrom proof from to beyond = (beyond < min from (file_size_of proof) - begin_of proof 0)
+    ⊎ (beyond < begin_of proof (length proof.chunks) - min to (file_size_of proof))
 
--- the chunks of a part are some first bytes of data, and the wanted ones of these are some bytes
-pub record IsPrefixChecked (part : Part) (all bytes : List ℕ) : Type 0 where
-  pub number : ℕ
-  pub within : number ≤ length all
-  pub adjacent : AreAdjacent (begin_of part.proof 0) part.checked (take number all)
-  pub bytes_are : bytes ≡ slice_range (take number all) (part.from - begin_of part.proof 0) (part.to - begin_of part.proof 0)
+-- why a proof isn't opened for the bytes from one place to another
+abbrev pub IsWhyRefused : Proof → List ℕ → List ℕ → ℕ → ℕ → ℕ → PartFault → Type 0
+IsWhyRefused proof hash salt from to beyond Mismatch = ¬ (Shows proof hash salt)
+IsWhyRefused proof hash salt from to beyond (Elsewhere begin end) = Shows proof hash salt × GoesFrom proof begin end × ¬ (HoldsPlaces proof from to)
+IsWhyRefused proof hash salt from to beyond (TooFar begin end) =
+    Shows proof hash salt × GoesFrom proof begin end × HoldsPlaces proof from to × IsFarFrom proof from to beyond
+IsWhyRefused proof hash salt from to beyond OutOfMemory = ⊤
+
+-- so many of a proof's first chunks stand at the front of some data, before the rest
+pub record AreRight (proof : Proof) (number : ℕ) (all rest : List ℕ) : Type 0 where
+  pub chunks : List (List ℕ)
+  pub nodes_are : chunk_nodes chunks ≡ take number proof.chunks
+  pub bytes_are : bytes_of_chunks chunks ++ rest ≡ all
+
+-- copies of some of a proof's first chunks, in their order and at their places
+pub data AreCopies (proof : Proof) : List (List ℕ) → List Chunk → Type 0 where
+  none : AreCopies proof [] []
+  more : {copies : List Chunk} (chunks : List (List ℕ)) (chunk : List ℕ) → AreCopies proof chunks copies →
+      AreCopies proof (chunks ++ chunk ∷ []) (copies ++ record { begin = begin_of proof (length chunks); bytes = chunk } ∷ [])
+  left_out : {copies : List Chunk} (chunks : List (List ℕ)) (chunk : List ℕ) → AreCopies proof chunks copies →
+      AreCopies proof (chunks ++ chunk ∷ []) copies
+
+-- so many of a proof's first chunks are right in some data, and some of them are copied
+pub record AreCopied (proof : Proof) (number : ℕ) (all : List ℕ) (copies : List Chunk) : Type 0 where
+  pub rest : List ℕ
+  pub right : AreRight proof number all rest
+  pub are : AreCopies proof right.chunks copies
+
+-- the data of a proof's chunk stands at the front of some bytes
+abbrev pub BeginsWith : Proof → ℕ → List ℕ → Type 0
+BeginsWith proof number bytes = (count : ℕ) × (count ≤ length bytes) × (slice_get proof.chunks number ≡ Some (chunk_node (take count bytes)))
+
+-- so many of a proof's first chunks are right in some data, and the next one isn't
+abbrev pub AreAllRight : Proof → ℕ → List ℕ → Type 0
+AreAllRight proof number all = (rest : List ℕ) × AreRight proof number all rest × ¬ (BeginsWith proof number rest)

@@ -1,1 +1,2 @@
 pub mod KeptChunks
+pub mod Parts

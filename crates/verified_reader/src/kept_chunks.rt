@@ -1,7 +1,7 @@
 //! Chunks that are kept. Each is found by the places of its bytes, and the one that was used longest ago goes first.
 
-ghost use Rattle.std.specs.Prelude.{◌≡◌, ◌⊎◌, ◌↔◌, ℕ, ◌+◌, ◌^◌, ◌<◌, ◌≤◌, [], ◌∷◌, ◌++◌, length, map, take, drop, IfOk, IfSome, IfNone, IsTrue, OnOk, OnErr, Contains};
-ghost use Rattle.verified_reader.specs.Kept.{AllKept, AreKeptAt, AreKeptFrom, AreUsed, Chunk, DropsOldest, HasPlace, IsFirstGap, IsFree, IsKept, IsUsed, Keeps, KeepsAll, size_of_kept};
+ghost use Rattle.std.specs.Prelude.{◌≡◌, ◌⊎◌, ◌↔◌, ℕ, ◌+◌, ◌^◌, ◌<◌, ◌≤◌, [], ◌∷◌, ◌++◌, length, map, take, drop, IfOk, IsOk, IfSome, IfNone, IsTrue, OnOk, OnErr, Contains};
+ghost use Rattle.verified_reader.specs.Kept.{AllKept, AreKeptAt, AreKeptFrom, AreUsed, Chunk, DropsOldest, HasPlace, IsFirstMissing, IsFree, IsKept, IsUsed, Keeps, KeepsAll, size_of_kept};
 
 use std::alloc::{AllocError, Allocator, Global};
 use std::cmp::min;
@@ -49,7 +49,8 @@ impl<A: Allocator + Clone> KeptChunks<A> {
 
     /// Makes it without chunks. Fails if `alloc` can't be cloned.
     pub fn new(alloc: A) -> Result<Self, AllocError>
-        ensures { IfOk result (λ kept. kept ≡ []) }
+        ensures empty { IfOk result (λ kept. kept ≡ []) }
+        ensures succeeds { ((a : A) → A.is_infallible a) → IsOk result }
     {
         Ok(KeptChunks {
             by_use: BTreeMap::new(alloc.clone()?),
@@ -104,34 +105,21 @@ impl<A: Allocator + Clone> KeptChunks<A> {
         }
     }
 
-    /// Returns the first places, from one place on and below another, between which no byte is kept: the place of the first
-    /// such byte, and up to where they go. Returns `None` if each byte between both places is kept. It allocates nothing.
-    pub fn first_gap(&self, from: u64, to: u64) -> Option<(u64, u64)>
-        ensures gap { IfSome result (λ gap. IsFirstGap self.now from to gap.0 gap.1) }
+    /// Returns the first place from one place on and below another whose byte isn't kept, or `None` if all are. It allocates
+    /// nothing.
+    pub fn first_missing(&self, from: u64, to: u64) -> Option<u64>
+        ensures missing { IfSome result (IsFirstMissing self.now from to) }
         ensures none { IfNone result (AllKept self.now from to) }
     {
         let mut place = from;
         'chunks: while place < to {
             let Some(bytes) = self.at(place) else {
-                let next = self.next_begin(place + 1);
-                let end = min(to, next);
-                return Some((place, end));
+                return Some(place);
             };
             let next = place.saturating_add(bytes.len() as u64);
             place = next;
         }
         None
-    }
-
-    // Returns where the first chunk begins that begins at a place or after it, or `u64::MAX`.
-    fn next_begin(&self, place: u64) -> u64
-        ensures near { place ≤ result }
-        ensures least { (chunk : Chunk) → Contains self.now chunk → place ≤ chunk.begin → result ≤ chunk.begin }
-    {
-        match self.uses.range(place..).next() {
-            Some((next, _)) => *next,
-            None => u64::MAX,
-        }
     }
 
     /// Keeps a chunk, which is used now. Fails if an allocation fails. Then nothing has changed.
@@ -228,8 +216,8 @@ impl<A: Allocator + Clone> KeptChunks<A> {
         let _counts = self.size;
     }
 
-    // Drops the chunks that were used longest ago until all count at most `most`.
-    fn drop_oldest(&mut self, most: u64)
+    /// Drops the chunks that were used longest ago until all count at most `most`.
+    pub fn drop_oldest(&mut self, most: u64)
         ensures { DropsOldest most self.old self.new }
     {
         'oldest: while most < self.size() {

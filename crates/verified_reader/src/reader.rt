@@ -1,8 +1,8 @@
 //! A reader of a file that is somewhere else: what was checked of it, and is kept.
 
-ghost use Rattle.std.specs.Prelude.{◌≡◌, ◌⊎◌, ◌+◌, ◌<◌, ◌≤◌, ◌↔◌, ◌++◌, List, [], None, Some, Option, length, take, drop, All, IfNone, IfOk, IfSome, max, IsTrue};
+ghost use Rattle.std.specs.Prelude.{◌≡◌, ◌⊎◌, ◌+◌, ◌<◌, ◌≤◌, ◌↔◌, ◌∷◌, ◌++◌, List, [], None, Some, Option, length, take, drop, All, IfNone, IfOk, IfSome, IsOk, max, min, IsTrue};
 ghost use Rattle.range_proof.specs.RangeProof.{file_size_of};
-ghost use Rattle.verified_reader.specs.Kept.{AllKept, AreKeptAt, AreUsed, IsFirstGap, IsKept, KeepsAll, size_of_kept};
+ghost use Rattle.verified_reader.specs.Kept.{AllKept, AreKeptAt, AreUsed, Chunk, DropsOldest, IsFirstMissing, IsKept, KeepsAll, size_of_kept};
 ghost use Rattle.verified_reader.specs.Reader.{AreOfFile, Check, HasLearned, IsCheckedBy, IsPartOf, IsShownBy, IsSizeOfFile, checks_of, within_file};
 
 use crate::kept_chunks::KeptChunks;
@@ -54,7 +54,8 @@ impl<A: Allocator + Clone> VerifiedReader<A> {
     /// where each counts its bytes and 128 for the memory beside them. Fails if `alloc` can't be cloned. It allocates
     /// nothing itself.
     pub fn new(alloc: A, hash: &MerkleHash, salt: &[u8; 32], most: u64) -> Result<Self, AllocError>
-        ensures { IfOk result (λ reader. reader ≡ record { hash = hash.now; salt = salt.now; most = most; kept = []; size = None }) }
+        ensures made { IfOk result (λ reader. reader ≡ record { hash = hash.now; salt = salt.now; most = most; kept = []; size = None }) }
+        ensures succeeds { ((a : A) → A.is_infallible a) → IsOk result }
     {
         Ok(VerifiedReader {
             hash: *hash,
@@ -84,6 +85,17 @@ impl<A: Allocator + Clone> VerifiedReader<A> {
         self.size
     }
 
+    /// Changes what all chunks may count to `most`, and drops the chunks that were used longest ago until they do. It
+    /// allocates nothing.
+    pub fn keep_at_most(&mut self, most: u64)
+        ensures dropped { DropsOldest most self.old.kept self.new.kept }
+        ensures same { self.new ≡ record self.old { most = most; kept = self.new.kept } }
+        ensures stays { (checks : List Check) → IsShownBy checks self.old → IsShownBy checks self.new }
+    {
+        self.chunks.drop_oldest(most);
+        self.most = most;
+    }
+
     /// Copies the bytes that are kept from a place on to the front of `room`, as far as they follow one another. Returns how
     /// many these are. The rest of `room` stays the same. Their chunks count as used, the last one last, unless an allocation
     /// for that fails. It allocates nothing else.
@@ -103,18 +115,17 @@ impl<A: Allocator + Clone> VerifiedReader<A> {
     }
 
     /// Returns what is still missing of the bytes from the place `from` up to, but without, the place `to`, or up to the end
-    /// of the file if its size is known: the first places between which no byte is kept, at most `piece` bytes, or one if
-    /// that is 0. Returns `None` if all these bytes are kept. It allocates nothing.
+    /// of the file if its size is known: the place of the first byte that isn't kept, and up to where the bytes from it on are
+    /// wanted, at most `piece` bytes, or one if that is 0. Returns `None` if all these bytes are kept. It allocates nothing.
     pub fn needs(&self, from: u64, to: u64, piece: u64) -> Option<(u64, u64)>
-        ensures some { IfSome result (λ gap. IsFirstGap self.now.kept from (within_file self.now.size to) gap.0 gap.1) }
+        ensures some { IfSome result (λ wanted. IsFirstMissing self.now.kept from (within_file self.now.size to) wanted.0) }
+        ensures end { IfSome result (λ wanted. wanted.1 ≡ min (within_file self.now.size to) (wanted.0 + max 1 piece)) }
         ensures none { IfNone result (AllKept self.now.kept from (within_file self.now.size to)) }
-        ensures limit { IfSome result (λ gap. gap.1 ≤ gap.0 + max 1 piece) }
     {
-        let (first, end) = self.chunks.first_gap(from, self.within_file(to))?;
-        let most = max(1, piece);
-        let last = first.saturating_add(most);
-        let sooner = min(end, last);
-        Some((first, sooner))
+        let last = self.within_file(to);
+        let first = self.chunks.first_missing(from, last)?;
+        let end = first.saturating_add(max(1, piece));
+        Some((first, min(end, last)))
     }
 
     // Returns a place, or the end of the file if its size is known and it comes first.
@@ -138,7 +149,9 @@ impl<A: Allocator + Clone> VerifiedReader<A> {
         ensures refused { ¬ (IsTrue result) → self.new ≡ self.old }
         ensures kept { IsTrue result → KeepsAll self.old.most self.old.kept part.checked self.new.kept }
         ensures size { IsTrue result → HasLearned self.old part self.new }
-        ensures stays { (checks : List Check) → IsShownBy checks self.old → IsShownBy (checks_of part ++ checks) self.new }
+        ensures same { self.new ≡ record self.old { kept = self.new.kept; size = self.new.size } }
+        ensures stays { (checks : List Check) → IsShownBy checks self.old →
+            (check : Check) × (check.proof ≡ part.proof) × IsShownBy (check ∷ checks_of part ++ checks) self.new }
     {
         if !self.is_part(&part) {
             return false;
@@ -152,18 +165,20 @@ impl<A: Allocator + Clone> VerifiedReader<A> {
 
     // Returns the size of the file as it is known with a part of it, too.
     fn size_with(&self, part: &WantedPart<A>) -> Option<u64>
-        ensures some { 0 < length part.now.checked → result ≡ Some (file_size_of part.now.proof) }
-        ensures none { length part.now.checked ≡ 0 → result ≡ self.now.size }
+        ensures some { 0 < part.now.right → result ≡ Some (file_size_of part.now.proof) }
+        ensures none { part.now.right ≡ 0 → result ≡ self.now.size }
+        ensures shown { 0 < part.now.right → (chunk : Chunk) × IsCheckedBy part.now.proof part.now.hash part.now.salt chunk }
         ensures by { All (IsCheckedBy part.now.proof part.now.hash part.now.salt) part.now.checked }
     {
-        if part.chunks.is_empty() {
+        if part.right == 0 {
             return self.size;
         }
         Some(part.range.file_size())
     }
 
-    // Returns whether a part is of this reader's file.
-    fn is_part(&self, part: &WantedPart<A>) -> bool
+    /// Returns whether a part is of this reader's file: whether it has the same file hash and salt, and its proof the size of
+    /// the file, if that is known.
+    pub fn is_part(&self, part: &WantedPart<A>) -> bool
         ensures { IsTrue result ↔ IsPartOf self.now part.now }
     {
         if part.hash != self.hash || part.salt != self.salt {

@@ -1,4 +1,4 @@
-use Rattle.std.proofs.Common.{arith, ◌≡◌, ◌+◌, ℕ, List, length, sym, ap, subst, ◌∙◌}
+use Rattle.std.proofs.Common.{arith, ◌≡◌, ◌+◌, ◌^◌, ◌<◌, ℕ, List, length, sym, ap, subst, ◌∙◌}
 use Rattle.std.specs.Bool.{IsTrue}
 use Rattle.verified_reader.specs.Kept.{Chunk, DropsOldest, IsFree, Keeps}
 use Rattle.verified_reader.specs.Steps.KeptChunks.{chunk_of}
@@ -38,4 +38,7 @@ returns-clause-kept g c =
     let end : c.in-Some.end ≡ c.args.begin + c.len-len.result = grind (arith, c.in-Some.ensures) in
     let end_too = end ∙ ap (λ (n : ℕ). c.args.begin + n) len in
     let free = subst (λ (n : ℕ). IsFree c.args.self.now c.args.begin n) end_too (c.is_free.ensures.0 yes) in
-    Keeps.kept free (subst (λ (l : List Chunk). DropsOldest c.args.most l c.drop_oldest.new.self) c.in_ok-push.ensures.pushed c.drop_oldest.ensures)
+    let some = c.if-len-eq0.false in
+    let small = c.if-most-len.false in
+    let fits : c.args.begin + c.len-len.result < 2 ^ 64 = grind (arith, c.in-Some.ensures) in
+    Keeps.kept (omega (arith, some, len)) (omega (arith, small, len)) (omega (arith, fits, len)) free (subst (λ (l : List Chunk). DropsOldest c.args.most l c.drop_oldest.new.self) c.in_ok-push.ensures.pushed c.drop_oldest.ensures)

@@ -75,5 +75,5 @@ chunks-preserved g c =
       rest = drop-put_mid done k room ys (done + n) (omega arith) near size
           ∙ sym (drop-drop n done room) ∙ ap (drop n) so_far.rest ∙ drop-drop n done c.args.room.now;
       used = used_more now from (from + done) (from + (done + n)) c.in-Some.place c.chunks.self c.use_at.new.self so_far.used c.use_at.ensures
-          (omega (arith, place)) (omega (arith, place, more)) (omega arith);
+          (omega (arith, place)) (omega (arith, place, more)) (omega (arith, place));
     }

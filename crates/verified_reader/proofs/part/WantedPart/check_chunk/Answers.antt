@@ -1,44 +1,73 @@
-use Rattle.std.proofs.Common.{◌≡◌, ◌-◌, ◌++◌, ◌∷◌, [], ℕ, List, map, refl, sym, ap, subst, ◌∙◌, take}
-use Rattle.std.specs.Prelude.{All}
-use Rattle.std.proofs.lemmas.List.{map-append}
-use Rattle.std.proofs.lemmas.List.Elements.{All-push}
-use Rattle.range_proof.specs.RangeProof.{begin_of}
-use Rattle.range_proof.specs.Checking.{IsSoundCheck}
+use Rattle.std.proofs.Common.{arith, ◌≡◌, ◌+◌, ◌-◌, ◌<◌, ℕ, List, length, map, take, refl, sym, ap, subst, ◌∙◌, inl, inr}
+use Rattle.std.specs.Prelude.{Some, slice_get}
+use Rattle.commitment.specs.Commitment.{chunk_node}
+use Rattle.range_proof.specs.RangeProof.{Proof}
 use Rattle.verified_reader.specs.Kept.{Chunk}
-use Rattle.verified_reader.specs.Reader.{IsCheckedBy, Part}
-use Rattle.verified_reader.specs.declared.kept_chunks.KeptChunk.{KeptChunk}
-use Rattle.verified_reader.specs.Steps.KeptChunks.{chunk_of}
+use Rattle.verified_reader.specs.Reader.{BeginsWith, IsCheckedBy, Part}
+use Rattle.verified_reader.proofs.InOrder.{at_none}
+use Rattle.verified_reader.proofs.Parts.{no_chunk, other_chunk, too_short}
 use Rattle.verified_reader.proofs.part.WantedPart.check_chunk.Goals as goal
+use Rattle.verified_reader.proofs.part.WantedPart.check_chunk.Goals.{then-to-from-via-then-to-from, then-to-from-via-else-to-from+then-rest-to}
+
+pub returns-in_err-from-clause-none : goal.returns-in_err-from-clause-none
+returns-in_err-from-clause-none g c =
+    let inside = c.self.inside in
+    at_none c.from_residual.result
+    (subst (λ (p : Part). ¬ (BeginsWith p.proof c.args.k c.args.rest.now)) c.self.view_is (no_chunk inside.range c.args.k c.args.rest.now c.in_err-from.ensures))
+
+pub returns-in_err-to-clause-none : goal.returns-in_err-to-clause-none
+returns-in_err-to-clause-none g c =
+    let inside = c.self.inside in
+    at_none c.from_residual-in_err-to.result
+    (subst (λ (p : Part). ¬ (BeginsWith p.proof c.args.k c.args.rest.now)) c.self.view_is (no_chunk inside.range c.args.k c.args.rest.now c.in_err-to.ensures))
+
+pub returns-in_err-begin-clause-none : goal.returns-in_err-begin-clause-none
+returns-in_err-begin-clause-none g c =
+    let inside = c.self.inside in
+    at_none c.from_residual-in_err-begin.result
+    (subst (λ (p : Part). ¬ (BeginsWith p.proof c.args.k c.args.rest.now)) c.self.view_is
+    (other_chunk inside.range c.args.k c.in_ok-from.from c.in_ok-to.to c.args.rest.now c.in_ok-from.ensures.1 c.in_ok-to.ensures.1 c.in_err-begin.ensures.place))
+
+pub returns-then-to-from-clause-none : goal.returns-then-to-from-clause-none
+returns-then-to-from-clause-none g c =
+    let inside = c.self.inside in
+    subst (λ (p : Part). ¬ (BeginsWith p.proof c.args.k c.args.rest.now)) c.self.view_is
+    (too_short inside.range c.args.k c.in_ok-from.from c.in_ok-to.to c.args.rest.now c.in_ok-from.ensures.1 c.in_ok-to.ensures.1
+    (elim c.then-to-from.branch [
+      | then-to-from-via-then-to-from w ↦ inl w.if-to-from.true
+      | then-to-from-via-else-to-from+then-rest-to w ↦ inr w.if-rest-to.true
+    ]))
 
 pub invariant_of-self : goal.invariant_of-self
 invariant_of-self g c =
     let inside = c.self.inside in
     let h = c.self.invariant in
-    (h.0, h.1, h.2, h.3, subst (λ items. All (IsCheckedBy inside.range inside.hash inside.salt) (map chunk_of items)) (sym c.in_default-push.ensures.items) h.4)
+    let chunk : Chunk = record { begin = c.in_ok-begin.begin; bytes = take (c.in_ok-to.to - c.in_ok-from.from) c.args.rest.now } in
+    let less = c.if-k-num_chunks.false in
+    let count : c.num_chunks.result ≡ length inside.range.chunks = c.num_chunks.ensures.chunks in
+    record {
+      begin = h.begin;
+      in_order = h.in_order;
+      end = h.end;
+      shows = h.shows;
+      within = omega (arith, less, count);
+      shown = λ some. (chunk, record { number = c.args.k; shows = h.shows; place = c.in_ok-begin.ensures.place.1; sound = c.in_ok-begin.ensures.sound refl });
+      all = h.all;
+    }
 
 pub invariant_of-self-2 : goal.invariant_of-self-2
 invariant_of-self-2 g c =
     let inside = c.self.inside in
     let h = c.self.invariant in
-    let P : Chunk → Type 0 = IsCheckedBy inside.range inside.hash inside.salt in
-    let kept : KeptChunk g.row.A.Denot = record { begin = c.in_ok-begin.begin; bytes = c.in-Ok-to_vec.bytes } in
-    let items = c.in-Ok-to_vec.ensures.items_if_clones_equal (λ x y e. e) in
-    let sound = subst (λ (l : List ℕ). IsSoundCheck inside.range c.args.k l) (sym items) (c.in_ok-begin.ensures.sound refl) in
-    let checked : P (chunk_of kept) = record { number = c.args.k; shows = h.3; place = c.in_ok-begin.ensures.place.1; sound = sound } in
-    let added = map-append chunk_of inside.chunks.items (kept ∷ []) in
-    let all = All-push P (map chunk_of inside.chunks.items) (chunk_of kept) h.4 checked in
-    (h.0, h.1, h.2, h.3, subst (λ l. All P (map chunk_of l)) (sym c.in-Ok-push.ensures.items) (subst (λ (l : List Chunk). All P l) (sym added) all))
-
-pub returns-clause-added : goal.returns-clause-added
-returns-clause-added g c =
-    let inside = c.self.inside in
-    let now = c.args.self.now in
-    let size = c.in_ok-to.to - c.in_ok-from.from in
-    let kept : KeptChunk g.row.A.Denot = record { begin = c.in_ok-begin.begin; bytes = c.in-Ok-to_vec.bytes } in
-    let items : c.in-Ok-to_vec.bytes.items ≡ take size c.args.rest.now = c.in-Ok-to_vec.ensures.items_if_clones_equal (λ x y e. e) in
-    let seen : Part = record { hash = inside.hash; salt = inside.salt; proof = inside.range; from = inside.from; to = inside.to; checked = map chunk_of inside.chunks.items } in
-    let begins : c.in_ok-begin.begin ≡ begin_of now.proof c.args.k = c.in_ok-begin.ensures.place.1 ∙ ap (λ (p : Part). begin_of p.proof c.args.k) c.self.view_is in
-    ap (λ (l : List Chunk). record seen { checked = l }) (ap (λ l. map chunk_of l) c.in-Ok-push.ensures.items ∙ map-append chunk_of inside.chunks.items (kept ∷ []))
-    ∙ ap (λ (p : Part). record p { checked = p.checked ++ chunk_of kept ∷ [] }) c.self.view_is
-    ∙ ap (λ (b : ℕ). record now { checked = now.checked ++ record { begin = b; bytes = c.in-Ok-to_vec.bytes.items } ∷ [] }) begins
-    ∙ ap (λ (l : List ℕ). record now { checked = now.checked ++ record { begin = begin_of now.proof c.args.k; bytes = l } ∷ [] }) items
+    let chunk : Chunk = record { begin = c.in_ok-begin.begin; bytes = take (c.in_ok-to.to - c.in_ok-from.from) c.args.rest.now } in
+    let less = c.if-k-num_chunks.false in
+    let count : c.num_chunks.result ≡ length inside.range.chunks = c.num_chunks.ensures.chunks in
+    record {
+      begin = h.begin;
+      in_order = h.in_order;
+      end = h.end;
+      shows = h.shows;
+      within = omega (arith, less, count);
+      shown = λ some. (chunk, record { number = c.args.k; shows = h.shows; place = c.in_ok-begin.ensures.place.1; sound = c.in_ok-begin.ensures.sound refl });
+      all = h.all;
+    }

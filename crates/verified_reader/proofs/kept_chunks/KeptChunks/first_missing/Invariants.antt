@@ -1,6 +1,6 @@
 use Rattle.std.proofs.Common.{◌≤◌, ◌-◌}
 use Rattle.verified_reader.specs.Kept.{AllKept}
-use Rattle.verified_reader.proofs.kept_chunks.KeptChunks.first_gap.Given as goal
+use Rattle.verified_reader.proofs.kept_chunks.KeptChunks.first_missing.Given as goal
 
 abbrev pub invariant-chunks : goal.invariant-chunks
 invariant-chunks g l = record {

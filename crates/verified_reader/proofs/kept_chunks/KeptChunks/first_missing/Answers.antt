@@ -1,16 +1,14 @@
-use Rattle.std.proofs.Common.{arith, ◌∙◌}
-use Rattle.verified_reader.proofs.Reading.{all_more, first_gap, least_is, some_bytes}
-use Rattle.verified_reader.proofs.kept_chunks.KeptChunks.first_gap.Goals as goal
+use Rattle.std.proofs.Common.{arith}
+use Rattle.verified_reader.proofs.Reading.{all_more, some_bytes}
+use Rattle.verified_reader.proofs.kept_chunks.KeptChunks.first_missing.Goals as goal
 
 pub chunks-init : goal.chunks-init
 chunks-init g c = record { near = omega arith; all = λ q near below. absurd (omega (arith, near, below)) }
 
-pub returns-in_default-clause-gap : goal.returns-in_default-clause-gap
-returns-in_default-clause-gap g c =
+pub returns-in_default-clause-missing : goal.returns-in_default-clause-missing
+returns-in_default-clause-missing g c =
     let so_far = c.chunks.invariant in
-    let within = c.chunks-test.true in
-    first_gap c.args.self.now c.args.from c.chunks.place c.next_begin-next.result c.min-end.result c.args.to so_far.near within so_far.all
-    c.in_default.ensures.none c.next_begin-next.ensures.near c.next_begin-next.ensures.least (c.min-end.ensures ∙ least_is c.args.to c.next_begin-next.result)
+    record { begins = so_far.near; within = c.chunks-test.true; before = so_far.all; missing = c.in_default.ensures.none }
 
 pub chunks-smaller : goal.chunks-smaller
 chunks-smaller g c =
