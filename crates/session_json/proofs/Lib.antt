@@ -1,2 +1,9 @@
+pub mod Broken
+pub mod Faults
+pub mod Following
+pub mod OneMeaning
+pub mod JsonValues
+pub mod Rising
 pub mod Runs
+pub mod Strict
 pub mod Text

@@ -1,13 +1,18 @@
 -- The JSON form of a session over subtrees, as data of the toolchain's `serde_json`: the form that serde gives the sessions of
 -- the Rust crate `yurewha`.
-use Rattle.std.specs.Prelude.{List, map, codes}
+use Rattle.std.specs.Prelude.{◌≡◌, ◌↔◌, ℕ, Bool, true, false, List, [], map, codes}
+use Rattle.std.specs.List.Sorted.{IsStrictlySortedBy}
+use Rattle.std.specs.declared.alloc.Global.{Global}
 use Rattle.serde_json.specs.Data.{Data, array, object, no_members, member}
 use Rattle.serde_json.specs.View.{items_of}
+use Rattle.serde_json.specs.Written.{compact_text}
+use Rattle.xet_hash.specs.HashForms.{hash_cmp}
 use Rattle.level_nodes.specs.NodeJson.{number_json}
 use Rattle.subtree_levels.specs.Subtree.{Subtree}
 use Rattle.xet_merkle.specs.SubtreeJson.{subtree_json}
-use Rattle.upload_session.specs.Hashes.{Hash}
-use Rattle.upload_session.specs.Session.{PlacedRun}
+use Rattle.upload_session.specs.Hashes.{Hash, Knows}
+use Rattle.upload_session.specs.Session.{Parts, PlacedRun}
+use Rattle.upload_session.specs.declared.kept_hashes.SeenHashes.{SeenHashes}
 
 -- a hash: its four words
 abbrev pub hash_json : Hash → Data
@@ -25,3 +30,21 @@ abbrev pub session_json : List (PlacedRun Subtree) → List Hash → Data
 session_json runs hashes = object (
     member (codes "runs") (array (items_of (map run_json runs))) (
     member (codes "known_hashes") (array (items_of (map hash_json hashes))) no_members))
+
+-- the hashes that are known, each once, by rising order
+pub record AreKnownInOrder (kept : SeenHashes Global) (hashes : List Hash) : Type 0 where
+  pub known : Knows kept hashes
+  pub rising : IsStrictlySortedBy hash_cmp hashes
+
+-- the text of a session: its runs, and its known hashes by rising order, or none
+pub record IsTextOf (session : Parts Subtree (SeenHashes Global)) (with_hashes : Bool) (text : List ℕ) : Type 0 where
+  pub hashes : List Hash
+  pub all : with_hashes ≡ true → AreKnownInOrder session.kept hashes
+  pub none : with_hashes ≡ false → hashes ≡ []
+  pub text_is : text ≡ compact_text (session_json session.runs hashes)
+
+-- two sessions have the same runs and the same size, and know the same hashes
+pub record IsSameSession (a b : Parts Subtree (SeenHashes Global)) : Type 0 where
+  pub runs : a.runs ≡ b.runs
+  pub size : a.size ≡ b.size
+  pub known : (known : List Hash) → Knows a.kept known ↔ Knows b.kept known

@@ -7,7 +7,7 @@ ghost use Rattle.serde_json.specs.View.{items_of};
 ghost use Rattle.serde_json.specs.Written.{comma_if, compact_text};
 ghost use Rattle.level_nodes.specs.NodeJson.{number_json};
 ghost use Rattle.xet_merkle.specs.SubtreeJson.{subtree_json};
-ghost use Rattle.session_json.specs.SessionJson.{hash_json, run_json, session_json};
+ghost use Rattle.session_json.specs.SessionJson.{hash_json, run_json, session_json, AreKnownInOrder, IsTextOf};
 
 use std::alloc::{AllocError, Allocator, Global};
 use subtree_sessions::session::Session;
@@ -139,4 +139,29 @@ pub fn session_text(
     push_hashes(&mut text, hashes)?;
     text.push(b'}')?;
     Ok(text)
+}
+
+// Returns the known hashes of a session by rising order.
+fn sorted_hashes(session: &Session) -> Result<Vec<MerkleHash>, AllocError>
+    ensures { IfOk result (λ hashes. AreKnownInOrder session.now.kept hashes.items) }
+{
+    let mut hashes = session.known_hashes()?;
+    hashes.sort_unstable();
+    Ok(hashes)
+}
+
+/// Returns the compact JSON text of a session: its runs, by rising position, and its known hashes, by rising order, or no
+/// hashes. Equal sessions have equal texts. Fails if an allocation fails.
+pub fn write_session(
+    alloc: Global,
+    session: &Session,
+    with_hashes: bool,
+) -> Result<Vec<u8>, AllocError>
+    ensures { IfOk result (λ text. IsTextOf session.now with_hashes text.items) }
+{
+    if !with_hashes {
+        return session_text(alloc, session, &[]);
+    }
+    let hashes = sorted_hashes(session)?;
+    session_text(alloc, session, &hashes)
 }

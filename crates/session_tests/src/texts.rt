@@ -1,7 +1,9 @@
 //! Sessions as JSON texts: those of `tests/vectors/session_json.json`, which the model makes.
 
 use crate::sessions::{nodes, to_number};
-use session_json::writing::session_text;
+use session_json::fault::SessionTextFault;
+use session_json::reading::read_session;
+use session_json::writing::{session_text, write_session};
 use std::alloc::Global;
 use std::process::Abort;
 use std::vec::Vec;
@@ -53,4 +55,58 @@ fn sessions_have_the_texts_of_the_model(rt: HostRuntime) {
         let written = session_text(rt.alloc(), &session, &hashes).expect(&rt, "memory");
         assert!(rt; written.as_slice() == text.as_bytes(), "{row}");
     }
+}
+
+#[test]
+fn texts_are_written_again_as_they_were_read(rt: HostRuntime) {
+    for row in TEXTS.lines() {
+        let (_, _, text) = three_fields(row, '|').expect(&rt, "three fields");
+        let session = read_session(rt.alloc(), text.as_bytes(), true).expect(&rt, "a session");
+        let written = write_session(rt.alloc(), &session, true).expect(&rt, "memory");
+        assert!(rt; written.as_slice() == text.as_bytes(), "{row}");
+        let without = read_session(rt.alloc(), text.as_bytes(), false).expect(&rt, "a session");
+        let all = write_session(rt.alloc(), &without, true).expect(&rt, "memory");
+        let none = write_session(rt.alloc(), &session, false).expect(&rt, "memory");
+        assert!(rt; all.as_slice() == none.as_slice(), "{row}");
+    }
+}
+
+#[test]
+fn texts_of_no_session_have_the_lowest_fault(rt: HostRuntime) {
+    let empty = "{\"at_end\":false,\"at_start\":false,\"levels\":[[0,0]],\"nodes\":[]}";
+    for (text, fault) in [
+        (
+            "{\"runs\":[],\"runs\":[],\"known_hashes\":[]}",
+            SessionTextFault::Text,
+        ),
+        ("[]", SessionTextFault::Rule(1)),
+        ("{\"runs\":[0]}", SessionTextFault::Rule(2)),
+        (
+            "{\"runs\":[0],\"known_hashes\":[0]}",
+            SessionTextFault::Rule(3),
+        ),
+        (
+            "{\"runs\":[{\"first\":2,\"end\":1,\"chunks\":0}],\"known_hashes\":[0]}",
+            SessionTextFault::Rule(4),
+        ),
+        (
+            "{\"runs\":[{\"first\":2,\"end\":1,\"chunks\":0}],\"known_hashes\":[]}",
+            SessionTextFault::Subtree(1),
+        ),
+    ] {
+        assert!(rt;
+            read_session(rt.alloc(), text.as_bytes(), true).err() == Some(fault),
+            "{text}"
+        );
+    }
+    let mut text = Vec::new(rt.alloc());
+    for part in [
+        "{\"runs\":[{\"first\":1,\"end\":1,\"chunks\":",
+        empty,
+        "}],\"known_hashes\":[]}",
+    ] {
+        text.extend_from_slice(part.as_bytes())
+            .expect(&rt, "memory");
+    }
+    assert!(rt; read_session(rt.alloc(), &text, true).err() == Some(SessionTextFault::Rule(6)));
 }
