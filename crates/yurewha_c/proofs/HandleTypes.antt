@@ -1,4 +1,4 @@
--- What the walks of a handle's calls need of its type, and the four types of handles.
+-- What the walks of a handle's calls need of its type, and the six types of handles.
 use mathlib.Core.Path.{◌≡◌, refl, ap, subst}
 use mathlib.Core.List.{List}
 use mir.Syntax.{Sym}
@@ -14,14 +14,18 @@ use Rattle.std_heap.specs.contracts.GlobalAllocator.TheImpl.{ghosts}
 use Rattle.std_heap.proofs.Global.TheLaws as global_laws
 use Rattle.yurewha_c.proofs.AsBox.{global_row}
 use Rattle.yurewha_c.proofs.Handles.{held}
-use Rattle.yurewha_c.specs.Rows.{subtree_row, session_row, hash_tree_row, opened_range_row}
+use Rattle.yurewha_c.specs.Rows.{subtree_row, session_row, hash_tree_row, opened_range_row, part_row, reader_row}
 use Rattle.yurewha_c.specs.contracts.subtree_handle.SubtreeHandle as subtree_handle
 use Rattle.yurewha_c.specs.contracts.session_handle.SessionHandle as session_handle
 use Rattle.yurewha_c.specs.contracts.hash_tree_handle.HashTreeHandle as hash_tree_handle
 use Rattle.yurewha_c.specs.contracts.opened_range_handle.OpenedRangeHandle as opened_range_handle
+use Rattle.yurewha_c.specs.contracts.part_handle.PartHandle as part_handle
+use Rattle.yurewha_c.specs.contracts.reader_handle.ReaderHandle as reader_handle
 use Rattle.yurewha_c.proofs.kept_session.KeptSession.TheLaws as session_laws
 use Rattle.range_proof.proofs.hash_tree.HashTree.TheLaws as hash_tree_laws
 use Rattle.range_proof.proofs.opened_range.OpenedRange.TheLaws as opened_range_laws
+use Rattle.verified_reader.proofs.part.WantedPart.TheLaws as part_laws
+use Rattle.verified_reader.proofs.reader.VerifiedReader.TheLaws as reader_laws
 use Rattle.xet_merkle.proofs.merkle_hash_subtree.subtree.MerkleHashSubtree.TheLaws as subtree_laws
 
 -- the fields of a handle: its pointer, its allocator, and the value that it owns
@@ -99,6 +103,34 @@ opened_ranges = record {
   laws = opened_range_laws.the_row_laws global_row ghosts global_laws.the_row_laws;
   name = opened_range_handle.struct.name;
   row = opened_range_handle.the_row;
+  of = λ f. record { at = f.0; alloc = f.1; value = f.2 };
+  fields = λ h. (h.at, h.alloc, h.value);
+  back = λ f. refl;
+  owns = λ h vs. refl;
+  last = λ h. tt;
+  silent = λ h f. refl;
+}
+
+abbrev pub parts : HandleType
+parts = record {
+  kept = part_row;
+  laws = part_laws.the_row_laws global_row ghosts global_laws.the_row_laws;
+  name = part_handle.struct.name;
+  row = part_handle.the_row;
+  of = λ f. record { at = f.0; alloc = f.1; value = f.2 };
+  fields = λ h. (h.at, h.alloc, h.value);
+  back = λ f. refl;
+  owns = λ h vs. refl;
+  last = λ h. tt;
+  silent = λ h f. refl;
+}
+
+abbrev pub readers : HandleType
+readers = record {
+  kept = reader_row;
+  laws = reader_laws.the_row_laws global_row ghosts global_laws.the_row_laws;
+  name = reader_handle.struct.name;
+  row = reader_handle.the_row;
   of = λ f. record { at = f.0; alloc = f.1; value = f.2 };
   fields = λ h. (h.at, h.alloc, h.value);
   back = λ f. refl;

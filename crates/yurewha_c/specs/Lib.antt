@@ -7,6 +7,7 @@ pub mod Order
 pub mod FlatLists
 pub mod Pieces
 pub mod ProofLists
+pub mod Readers
 pub mod Texts
 pub mod Rows
 pub mod Owned

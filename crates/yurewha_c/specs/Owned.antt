@@ -8,7 +8,7 @@ use Rattle.std.specs.Coded.{coded_option}
 use Rattle.std.specs.Box.Ownership.{box_owns}
 use Rattle.std.specs.Global.{Global}
 use Rattle.std.specs.contracts.impls.GlobalAllocator.TheImpl.{ghosts}
-use Rattle.yurewha_c.specs.Rows.{subtree_row, session_row, hash_tree_row, opened_range_row}
+use Rattle.yurewha_c.specs.Rows.{subtree_row, session_row, hash_tree_row, opened_range_row, part_row, reader_row}
 
 -- a pointer that is null
 abbrev pub IsNull : Ptr → Fml
@@ -42,3 +42,15 @@ owns_opened_range = owns_kept opened_range_row
 
 abbrev pub opened_range_code : Coded (Option opened_range_row.Denot)
 opened_range_code = coded_option opened_range_row.coded
+
+abbrev pub owns_part : Global → Ptr → Option part_row.Denot → Fml
+owns_part = owns_kept part_row
+
+abbrev pub part_code : Coded (Option part_row.Denot)
+part_code = coded_option part_row.coded
+
+abbrev pub owns_reader : Global → Ptr → Option reader_row.Denot → Fml
+owns_reader = owns_kept reader_row
+
+abbrev pub reader_code : Coded (Option reader_row.Denot)
+reader_code = coded_option reader_row.coded

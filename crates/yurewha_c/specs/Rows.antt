@@ -5,6 +5,8 @@ use Rattle.std.specs.contracts.impls.GlobalAllocator.TheImpl.{ghosts}
 use Rattle.range_proof.specs.contracts.hash_tree.HashTree as hash_tree
 use Rattle.range_proof.specs.contracts.opened_range.OpenedRange as opened_range
 use Rattle.xet_merkle.specs.contracts.merkle_hash_subtree.subtree.MerkleHashSubtree as subtree
+use Rattle.verified_reader.specs.contracts.part.WantedPart as part
+use Rattle.verified_reader.specs.contracts.reader.VerifiedReader as reader
 use Rattle.yurewha_c.specs.contracts.kept_session.KeptSession as session
 
 abbrev pub subtree_row : RattleType
@@ -18,3 +20,9 @@ hash_tree_row = hash_tree.the_row global.the_row ghosts
 
 abbrev pub opened_range_row : RattleType
 opened_range_row = opened_range.the_row global.the_row ghosts
+
+abbrev pub part_row : RattleType
+part_row = part.the_row global.the_row ghosts
+
+abbrev pub reader_row : RattleType
+reader_row = reader.the_row global.the_row ghosts

@@ -4,6 +4,8 @@ use Rattle.xet_roots.specs.declared.error.CoreError.{CoreError}
 use Rattle.xet_roots.specs.declared.error.CoreError.TheVariants.{InvalidArguments, SizeOverflow, OutOfMemory, InvalidJson, InvalidLists}
 use Rattle.range_proof.specs.declared.open_error.OpenFault.{OpenFault}
 use Rattle.range_proof.specs.declared.open_error.OpenFault.TheVariants as open_faults
+use Rattle.session_json.specs.declared.fault.SessionTextFault.{SessionTextFault}
+use Rattle.session_json.specs.declared.fault.SessionTextFault.TheVariants as text_faults
 use Rattle.upload_session.specs.declared.session_fault.SessionFault.{SessionFault}
 use Rattle.upload_session.specs.declared.session_fault.SessionFault.TheVariants.{Overlap, Positions, Sizes, Memory, Gap}
 
@@ -30,6 +32,12 @@ empty_handle = 6
 
 abbrev pub mismatch : ℕ
 mismatch = 7
+
+abbrev pub elsewhere : ℕ
+elsewhere = 38
+
+abbrev pub too_far : ℕ
+too_far = 39
 
 abbrev pub session_gap : ℕ
 session_gap = 37
@@ -59,3 +67,9 @@ proof_status (InvalidLists rule) = 48 + rule
 abbrev pub open_status : OpenFault → ℕ
 open_status open_faults.Mismatch = 7
 open_status open_faults.OutOfMemory = 3
+
+abbrev pub text_status : SessionTextFault → ℕ
+text_status text_faults.Text = 4
+text_status (text_faults.Rule rule) = 64 + rule
+text_status (text_faults.Subtree rule) = 16 + rule
+text_status text_faults.Memory = 3

@@ -3,7 +3,7 @@
 //!
 //! A slice is passed as a pointer and a length, a reference as a pointer, and a `Global` as nothing. No export has a
 //! precondition: each wrong argument has a [`status`]. Whatever owns memory is passed as a [`subtree_handle`], a
-//! [`session_handle`], a [`hash_tree_handle`] or an [`opened_range_handle`].
+//! [`session_handle`], a [`hash_tree_handle`], an [`opened_range_handle`], a [`part_handle`] or a [`reader_handle`].
 //!
 //! The comment of an export lists its statuses, and ends with the version that first had it. It doesn't repeat the header's
 //! rules for all calls. A call that doesn't return `DONE` changes and writes nothing, except for the lengths that it writes
@@ -21,17 +21,23 @@ mod hasher;
 mod kept_session;
 mod opened_range;
 mod opened_range_handle;
+mod part;
+mod part_handle;
 mod parts;
+mod proof_bytes;
 mod proof_check;
 mod proof_lists;
 mod proof_opening;
 mod proof_text;
+mod reader;
+mod reader_handle;
 mod roots;
 mod session;
 mod session_handle;
 mod session_runs;
 mod session_saving;
 mod session_state;
+mod session_text;
 mod status;
 mod status_text;
 mod subtree;

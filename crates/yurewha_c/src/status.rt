@@ -1,9 +1,10 @@
 //! The statuses that exports return. The status is 0 if and only if the call succeeded.
 
 ghost use Rattle.std.specs.Prelude.{◌≡◌};
-ghost use Rattle.yurewha_c.specs.Statuses.{core_status, open_status, proof_status, session_status};
+ghost use Rattle.yurewha_c.specs.Statuses.{core_status, open_status, proof_status, session_status, text_status};
 
 use range_proof::OpenFault;
+use session_json::fault::SessionTextFault;
 use upload_session::session_fault::SessionFault;
 use xet_merkle::CoreError;
 
@@ -45,9 +46,19 @@ pub const SESSION_POSITIONS: u32 = 34;
 /// 35 for `SIZES` and 36 for `MEMORY`. No status gets these numbers again.
 pub const SESSION_GAP: u32 = 37;
 
-/// This plus the number of a rule, from 1 to 8: the JSON value, or the flat lists, of a range proof break this rule and
-/// none with a lower number.
+/// The range of a proof doesn't hold the bytes of the file that are asked for.
+pub const ELSEWHERE: u32 = 38;
+
+/// The range of a proof has more bytes beside those that are asked for than are allowed.
+pub const TOO_FAR: u32 = 39;
+
+/// This plus the number of a rule, from 1 to 8: the JSON value, the bytes or the flat lists of a range proof break this
+/// rule and none with a lower number.
 pub const PROOF_RULE: u32 = 48;
+
+/// This plus the number of a rule, from 1 to 7 but 5: the JSON value of a session breaks this rule and none with a lower
+/// number. If it breaks rule 5, the status is `RULE` plus a rule of subtrees.
+pub const SESSION_RULE: u32 = 64;
 
 // Returns the status of an error.
 pub(crate) fn status_of(error: CoreError) -> u32
@@ -93,5 +104,17 @@ pub(crate) fn status_of_open(fault: OpenFault) -> u32
     match fault {
         OpenFault::Mismatch => MISMATCH,
         OpenFault::OutOfMemory => MEMORY,
+    }
+}
+
+// Returns the status of a text that says no session.
+pub(crate) fn status_of_text(fault: SessionTextFault) -> u32
+    ensures { result ≡ text_status fault }
+{
+    match fault {
+        SessionTextFault::Text => TEXT,
+        SessionTextFault::Rule(rule) => SESSION_RULE + u32::from(rule),
+        SessionTextFault::Subtree(rule) => RULE + u32::from(rule),
+        SessionTextFault::Memory => MEMORY,
     }
 }

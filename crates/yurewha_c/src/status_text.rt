@@ -1,12 +1,12 @@
 //! What each status means, in English.
 
 ghost use Rattle.std.specs.Prelude.{◌≡◌, ◌-◌, ◌≤◌, length};
-ghost use Rattle.yurewha_c.specs.StatusTexts.{proof_rule_text, rule_text, status_text};
+ghost use Rattle.yurewha_c.specs.StatusTexts.{proof_rule_text, rule_text, session_rule_text, status_text};
 ghost use Rattle.yurewha_c.specs.Texts.{WritesText};
 
 use crate::status::{
-    ARGUMENTS, DONE, EMPTY_HANDLE, MEMORY, MISMATCH, PROOF_RULE, ROOM, RULE, SESSION_GAP,
-    SESSION_OVERLAP, SESSION_POSITIONS, SIZES, TEXT,
+    ARGUMENTS, DONE, ELSEWHERE, EMPTY_HANDLE, MEMORY, MISMATCH, PROOF_RULE, ROOM, RULE,
+    SESSION_GAP, SESSION_OVERLAP, SESSION_POSITIONS, SESSION_RULE, SIZES, TEXT, TOO_FAR,
 };
 use crate::text::write_text;
 
@@ -39,14 +39,30 @@ fn proof_rule_text(rule: u32) -> &'static str
     ensures fits { length result.now ≤ 96 }
 {
     match rule {
-        1 => "rule 1: the range proof isn't an object",
+        1 => "rule 1: the range proof isn't an object, or has no byte",
         2 => "rule 2: the chunks or levels aren't an array",
-        3 => "rule 3: a level isn't an object with two arrays",
+        3 => "rule 3: a level isn't an object with two arrays, or two bytes",
         4 => "rule 4: a node isn't a hash and a size",
         5 => "rule 5: there is no chunk",
         6 => "rule 6: there are more than 64 levels",
         7 => "rule 7: a side of a level has more than 8 nodes",
         8 => "rule 8: the sizes add up to more than 2^64 - 1",
+        _ => "unknown status",
+    }
+}
+
+// Returns how a session's value breaks a rule.
+fn session_rule_text(rule: u32) -> &'static str
+    ensures value { result.now ≡ session_rule_text rule }
+    ensures fits { length result.now ≤ 96 }
+{
+    match rule {
+        1 => "rule 1: the session isn't an object",
+        2 => "rule 2: the runs or known hashes aren't an array",
+        3 => "rule 3: a run isn't an object with two positions and chunks",
+        4 => "rule 4: a known hash isn't an array of four words",
+        6 => "rule 6: a run has no position, a marked end, or no free position before it",
+        7 => "rule 7: the sizes of all runs add up to more than 2^64 - 1",
         _ => "unknown status",
     }
 }
@@ -68,8 +84,11 @@ fn status_text(status: u32) -> &'static str
         SESSION_OVERLAP => "a position is taken",
         SESSION_POSITIONS => "the first position plus the number of chunks passes 2^64 - 1",
         SESSION_GAP => "the taken positions aren't exactly those below the total",
+        ELSEWHERE => "the range proof isn't of the bytes that are asked for",
+        TOO_FAR => "the range proof is of too many bytes beside those that are asked for",
         0..=PROOF_RULE => rule_text(status.saturating_sub(RULE)),
-        _ => proof_rule_text(status - PROOF_RULE),
+        0..=SESSION_RULE => proof_rule_text(status - PROOF_RULE),
+        _ => session_rule_text(status - SESSION_RULE),
     }
 }
 
