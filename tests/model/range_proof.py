@@ -183,7 +183,7 @@ def read(known: OpenedRange, start: int, stop: int, data: bytes) -> Optional[byt
 
 
 # --------------------------------------------------------------------------
-# The JSON form and the flat form
+# The JSON form, the flat form and the binary form
 # --------------------------------------------------------------------------
 
 def to_json(proof: RangeProof) -> dict:
@@ -261,3 +261,24 @@ def from_flat(counts: Sequence[tuple[int, int]], nodes: Sequence[m.Node]) -> Ran
         levels.append((tuple(nodes[left_at:left_at + left]), tuple(nodes[right_end - right:right_end])))
         left_at, right_end = left_at + left, right_end - right
     return kept(RangeProof(tuple(nodes[left_at:right_end]), tuple(levels)))
+
+
+def to_bytes(proof: RangeProof) -> bytes:
+    """The binary form: a byte with the number of levels, two for the counts of each level, and 40 for each node of the flat list."""
+    counts, nodes = to_flat(proof)
+    said = bytes(count for pair in counts for count in pair)
+    return bytes([len(counts)]) + said + b"".join(m.to_bytes(h) + size.to_bytes(8, "little") for h, size in nodes)
+
+
+def from_bytes(data: bytes) -> RangeProof:
+    """The proof, or `InvalidJson` with the least broken rule: 1, 3 or 4 of the bytes, or 5 to 8."""
+    if not data:
+        raise m.InvalidJson(1)
+    end = 1 + 2 * data[0]
+    if len(data) < end:
+        raise m.InvalidJson(3)
+    if (len(data) - end) % 40 != 0:
+        raise m.InvalidJson(4)
+    counts = [(data[at], data[at + 1]) for at in range(1, end, 2)]
+    nodes = [data[at:at + 40] for at in range(end, len(data), 40)]
+    return from_flat(counts, [(m.from_bytes(node[:32]), int.from_bytes(node[32:], "little")) for node in nodes])

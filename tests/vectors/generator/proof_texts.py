@@ -1,4 +1,4 @@
-"""The tests of range_proofs.json on JSON texts and flat forms of proofs, and the lowest rule that others break."""
+"""The tests of range_proofs.json on JSON texts, flat forms and bytes of proofs, and the lowest rule that others break."""
 
 from __future__ import annotations
 
@@ -19,6 +19,11 @@ RULES = {
     6: "there are at most 64 levels",
     7: "each side has at most 8 nodes",
     8: "the sizes of all nodes add up to at most 2^64 - 1",
+}
+BYTE_RULES = {
+    1: "there is a first byte",
+    3: "two bytes follow for each level",
+    4: "whole nodes follow, of 40 bytes each",
 }
 NOTES = {
     "ProofOfAList": "The proof of a range of a list.",
@@ -211,6 +216,53 @@ def flats() -> Group:
     return Group("FlatProof", "flat forms", tests)
 
 
+def bytes_test(comment: str, data: bytes, *flags: str) -> Test:
+    """Bytes with what the model makes of them."""
+    try:
+        return valid(comment, *flags, proofBytes=data.hex(), json=range_proof.to_json_text(range_proof.from_bytes(data)))
+    except m.InvalidJson as refusal:
+        return invalid(comment, *flags, proofBytes=data.hex(), error="InvalidJson", rule=refusal.rule)
+
+
+def listed(counts: Counts, nodes: Sequence[m.Node]) -> bytes:
+    """The bytes of flat lists, which may be those of no proof."""
+    proof = range_proof.RangeProof(tuple(nodes), ())
+    return bytes([len(counts), *(count for pair in counts for count in pair)]) + bytes(range_proof.to_bytes(proof)[1:])
+
+
+def all_bytes() -> Group:
+    """Bytes that are read or refused."""
+    chosen = [(lists.seeds([1]), 0, 1), (lists.seeds([1, 2, 3]), 0, 3), (lists.counted(28, 4), 10, 12), (lists.drawn(1, 40), 20, 21),
+              (lists.sized(m.MAX_U64, 0), 1, 2)]
+    honest = [range_proof.to_bytes(range_proof.prove(told.nodes, first, end, lists.maker)) for told, first, end in chosen]
+    tests = [bytes_test("", data, "ProofOfAList") for data in honest]
+    twenty, half, great = lists.numbered(0, 20), ((1, 2, 3, 4), 2**63), ((1, 2, 3, 4), m.MAX_U64)
+    tests += [bytes_test(comment, listed(counts, nodes), "ProofOfNoList") for comment, counts, nodes in (
+        ("no level", [], (ONE, TWO, THREE)), ("one chunk among sides of two levels", [(1, 0), (0, 1)], (ONE, TWO, THREE)),
+        ("64 levels", [(0, 0)] * 64, (ONE,)), ("8 nodes on a side", [(8, 0), (0, 8)], twenty),
+        ("the greatest sum", [(1, 0)], [half, ((1, 1, 1, 1), 2**63 - 1)]), ("the greatest size", [], [great]),
+        ("the default hash", [], [(m.DEFAULT_HASH, 0)]))]
+    if any(test["result"] != "valid" for test in tests):
+        raise ValueError("bytes of a proof aren't read")
+    data = honest[2]
+    rows = [("nothing", b""), ("a number of levels alone", data[:1]), ("half of the counts", data[:4]), ("a byte too few of the counts", data[:6]),
+            ("a byte of a node", data[:8]), ("a byte too few", data[:-1]), ("a byte too many", data + b"\0"), ("a byte in front", b"\0" + data),
+            ("a node cut in two", data[:-20]), ("255 levels, and nothing else", b"\xff"), ("no node", listed([], [])),
+            ("no node, and a level", listed([(0, 0)], [])), ("no chunk", listed([(1, 1), (0, 1)], (ONE, TWO, THREE))),
+            ("a node too few", honest[3][:-40]), ("far too few", listed([(255, 255)], (ONE,))), ("65 levels", listed([(0, 0)] * 65, (ONE,))),
+            ("9 left nodes", listed([(9, 0)], twenty)), ("9 right nodes", listed([(0, 0), (0, 9)], twenty))]
+    refused = [bytes_test(*row) for row in rows]
+    refused += [bytes_test(f"sizes that pass: {comment}", listed(counts, nodes), "Beyond64Bits") for comment, counts, nodes in (
+        ("a chunk and a left node", [(1, 0)], [half, half]), ("two chunks", [], [great, ONE]))]
+    many = [(0, 0)] * 64
+    refused += [bytes_test(f"rules {comment}", it, "LaterRulesToo") for comment, it in (
+        ("3 and 5", b"\xff" + bytes(509)), ("4 and 5", b"\0\0"), ("5 and 7", listed([(9, 9)], (ONE,))), ("6 and 7", listed([(9, 0), *many], twenty)),
+        ("6 to 8", listed([(9, 0), *many], [great] * 20)), ("7 and 8", listed([(9, 0)], [great] * 20)))]
+    if {test.get("rule") for test in refused} != {*BYTE_RULES, 5, 6, 7, 8}:
+        raise ValueError("a rule of bytes without a test, or good bytes among bad ones")
+    return Group("ProofBytes", "bytes", tests + refused)
+
+
 def groups() -> list[Group]:
     """All groups of tests of forms."""
-    return [good(), not_json(), broken(), flats()]
+    return [good(), not_json(), broken(), flats(), all_bytes()]

@@ -48,6 +48,11 @@ HEADER = [
     "all levels, lowest level first, then the range, then the right nodes of all levels, highest level first. So the range is "
     "what no level counts. It is refused with InvalidJson and the lowest of the rules 5 to 8 that it breaks; counts that add "
     "up to more than there are nodes break rule 5.",
+    "The bytes of a proof are a byte with the number of levels; for each level, from the chunks up, two bytes with the numbers of "
+    "its left and right nodes; and for each node of the flat form, in order, the 32 bytes of its hash and the 8 of its size, the "
+    "least significant first. Bytes are refused with InvalidJson and the lowest rule that they break, which is one of the rules 5 to 8 "
+    "or of these.",
+    *(f"Rule {number} of bytes: {text}." for number, text in proof_texts.BYTE_RULES.items()),
 ]
 NOTES = {
     "NoChunk": "There are no chunks, so there is no proof.",

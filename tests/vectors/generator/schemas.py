@@ -210,7 +210,9 @@ def _proof_forms() -> list[Schema]:
     flat = {"levels": array(array(ref("number"), minItems=2, maxItems=2)), "nodes": array(NODE)}
     rule: Schema = {"type": "integer", "minimum": 5, "maximum": 8}
     lists_ = valid_or_invalid(flat, {"json": TEXT}, {"error": one_of("InvalidJson"), "rule": rule})
-    return [group("ProofJson", _json_texts(8)), group("FlatProof", lists_)]
+    rule_of_bytes: Schema = {"enum": [1, 3, 4, 5, 6, 7, 8]}
+    bytes_ = valid_or_invalid({"proofBytes": ref("bytes")}, {"json": TEXT}, {"error": one_of("InvalidJson"), "rule": rule_of_bytes})
+    return [group("ProofJson", _json_texts(8)), group("FlatProof", lists_), group("ProofBytes", bytes_)]
 
 
 def upstream() -> list[Schema]:

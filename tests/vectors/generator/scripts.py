@@ -44,6 +44,7 @@ CALLS = {
     "hash_tree_bytes_of": "hash_tree number number", "hash_tree_proof": "hash_tree number number",
     "range_proof_from_chunks": "chunks number number", "range_proof_levels": "range_proof", "range_proof_nodes": "range_proof",
     "range_proof_to_json": "range_proof", "range_proof_from_json": "text", "range_proof_from_flat": "levels chunks",
+    "range_proof_to_bytes": "range_proof", "range_proof_from_bytes": "data",
     "range_proof_open": "range_proof hash bytes", "range_proof_open_root": "range_proof hash",
     "opened_range_file_size": "opened_range", "opened_range_num_chunks": "opened_range",
     "opened_range_bytes_of": "opened_range number", "opened_range_check": "opened_range number data",

@@ -381,6 +381,17 @@ def flat_proof(_: Group, it: Test) -> Steps:
     yield call("range_proof_levels", "p", gives=given[1])
 
 
+def proof_bytes(_: Group, it: Test) -> Steps:
+    """Bytes that are read or refused."""
+    given = ("range_proof_from_bytes", it["proofBytes"])
+    if it["result"] == "invalid":
+        yield refused(*given, error="PROOF_RULE", rule=it["rule"])
+        return
+    yield call(*given, makes="p")
+    yield call("range_proof_to_json", "p", gives=it["json"])
+    yield call("range_proof_to_bytes", "p", gives=it["proofBytes"])
+
+
 KINDS: dict[str, Callable[[Group, Test], Iterable[Step]]] = {
     "MessageHash": message_hash, "PieceHash": piece_hash, "Key": key, "RandomFromSeed": random_from_seed, "Hmac": hmac,
     "HashForms": hash_forms, "HexText": text_of_a_hash("from_hex"), "Base64Text": text_of_a_hash("from_base64"),
@@ -388,7 +399,7 @@ KINDS: dict[str, Callable[[Group, Test], Iterable[Step]]] = {
     "Subtree": subtree, "Merge": merge, "MergeRefused": merge_refused, "Bracketing": bracketing,
     "SubtreeJson": subtree_json, "SessionJson": read("session", "from_json", "RULE"),
     "HashTree": hash_tree, "ProofRefused": proof_refused, "OpenProof": open_proof,
-    "ProofJson": read("range_proof", "from_json", "PROOF_RULE"), "FlatProof": flat_proof}
+    "ProofJson": read("range_proof", "from_json", "PROOF_RULE"), "FlatProof": flat_proof, "ProofBytes": proof_bytes}
 #: What a test says that no call answers, for whoever looks for a fault.
 TOLD = ("words", "rustFinalHash")
 
