@@ -1,5 +1,5 @@
 /* Yurewha 1.1.0 for x86-64-v3: the kernels of the proved library, as the toolchain compiles it. Made by dist/make, not by hand.
-   The sum of its sources: 9e3bb3e75325ddba680fcc33c2a159b5e91e47a0e9a3f4c6ba23f5756fce5c94 */
+   The sum of its sources: 69aa2f97952662c3100ccd9cfe1d66ed46da8ac9b2c310bdccb4a2fd4a68f1db */
 	.section	.note.gnu.property,"a",@note
 	.p2align	3, 0x0
 	.long	4, 16, 5

@@ -50,6 +50,8 @@ INDIRECT_JUMP = re.compile(r"(?m)^\tjmpq\t\*")
 OTHER_FRAME = re.compile(
     r"(?m)^\t(?!\.|cmpq\t|(?:add|sub|and)q\t\$-?\d+, %rsp$|leaq\t-?\d+\(%rbp\), %rsp$|movq\t%rbp, %rsp$).*[ \t]%rsp$"
     r"|^\txchg.*%rsp|^\tpush.*\n(?:\t\.cfi_.*\n)*\tret")
+#: An instruction for aarch64 with register x18, or its lower half.
+OF_SYSTEM = re.compile(r"(?m)^\t[a-z].*\b[xw]18\b.*$")
 #: What isn't among the instructions of the proved library: lines of tables, marks of targets of indirect jumps, signatures of the
 #: addresses to return to, and prefetches.
 ADDED = re.compile(r"(?m)^\t(?:\.cfi_.*|endbr64|prefetcht0\t.*|hint\t#(?:25|29|34|36))\n|(?<=^\t)notrack (?=jmpq)")
@@ -154,6 +156,8 @@ def finished(part: Level | Program, text: str, sources: str) -> str:
     elif part.has_kernels:
         text = PROTECTION_NOTE + in_file(part, with_branch_targets(text, [*exports, *KERNELS]))
     else:
+        if instruction := OF_SYSTEM.search(text):
+            raise Fault(f"register x18, which is the system's on Android and macOS, is used: {instruction[0].strip()}")
         text = marks.with_marks(text, exports)
     return HEAD.format(version=version(), what=what_is(part), sources=sources) + text
 

@@ -22,8 +22,6 @@ TRANSLATED = "x86-64-v4"
 WINDOWS = "windows-"
 #: What the names of levels for macOS begin with. Their files are those for Linux in another form.
 MACOS = "macos-"
-#: The processors of Macs for which there are files: aarch64.s uses register x18, which is the system's on macOS.
-MACOS_PROCESSORS = ("x86_64",)
 #: The crate of the library, and those of the programs.
 LIBRARY = "yurewha_c"
 #: A line of comments in a source.
@@ -163,7 +161,7 @@ def parts_for_windows() -> list[Level | Program]:
 
 def parts_for_macos() -> list[Level | Program]:
     """Whatever has a file of assembly for macOS."""
-    found = [replace(level, name=MACOS + level.name) for level in levels() if level.processor in MACOS_PROCESSORS]
+    found = [replace(level, name=MACOS + level.name) for level in levels()]
     return [*found, *programs_over(found)]
 
 

@@ -19,11 +19,13 @@ STORE = "rattle-kept"
 #: The file that says how many lanes are used at most.
 WIDEST = "crates/keyed_blake3/src/compression/width.rt"
 #: This replaces clang. It keeps the last LLVM module that clang gets, and the words with which it is called, and then calls clang.
+#: On aarch64 clang is told one thing more: to leave out register x18, which is the system's on Android and macOS.
 KEEPING_CLANG = """\
 #!/bin/sh
 for word; do
     if [ "$before" = ir ]; then
         cp "$word" '{folder}/module'
+        case "$*" in *--target=aarch64-*) set -- "$@" -ffixed-x18 ;; esac
         printf '%s\\0' "$@" >'{folder}/words'
     fi
     before=$word
