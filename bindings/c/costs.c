@@ -9,6 +9,8 @@
  * - A hash has 32 bytes. A list of hashes, and the two parts of a map of hashes, double their room when it is used up. A list
  *   that is as long as it will be is made by one request.
  * - A node of the map of runs has room for several runs, and is made for each sixth or eleventh of them.
+ * - The JSON of a run of one chunk and of a hash has 3 objects, with 9 names, and 4 arrays. To be read it is made a tree twice, one after
+ *   the other. In one of them an object takes about 1,000 bytes. A list and a text double their room when it is used up.
  * - A put copies its chunks, lists the new hashes, keeps them, and makes a subtree. One right before a run makes an entry, and an
  *   empty subtree for it, too.
  */
@@ -19,6 +21,9 @@ static const size_t sizes[] = {10, 1000};
 /* The requests and bytes that may be asked for whatever the number of runs, for lists that double their room. */
 enum { FEW_REQUESTS = 50, FEW_BYTES = 1000 };
 
+/* Room for the JSON text of a run of one chunk and of a hash. */
+enum { ROOM_FOR_RUN = 300 };
+
 /* A session of runs of one position each, of which no two are adjacent; and what is put into another one. */
 struct runs {
     size_t count;
@@ -28,6 +33,8 @@ struct runs {
     yurewha_subtree range;
     yurewha_session full;
     yurewha_session other;
+    char *text; /* room for the JSON of the full session, and this */
+    size_t length;
 };
 
 static void put(yurewha_session *session, uint64_t position, const yurewha_chunk *chunk)
@@ -50,6 +57,8 @@ static void make(struct runs *it, size_t count)
         it->hashes[i] = it->chunks[i].hash;
         put(&it->full, 2 * i, &it->chunks[i]);
     }
+    it->text = block(ROOM_FOR_RUN * (count + 1));
+    EXPECT_STATUS(YUREWHA_DONE, yurewha_session_to_json(&it->full, true, it->text, ROOM_FOR_RUN * (count + 1), &it->length));
 }
 
 static void unmake(struct runs *it)
@@ -60,6 +69,7 @@ static void unmake(struct runs *it)
     free(it->chunks);
     free(it->hashes);
     free(it->offsets);
+    free(it->text);
 }
 
 static void puts_apart(struct runs *it)
@@ -153,6 +163,16 @@ static void known(struct runs *it)
     EXPECT_STATUS(YUREWHA_DONE, yurewha_session_known_hashes(&it->full, it->hashes, it->count));
 }
 
+static void to_json(struct runs *it)
+{
+    EXPECT_STATUS(YUREWHA_DONE, yurewha_session_to_json(&it->full, true, it->text, it->length, &it->length));
+}
+
+static void from_json(struct runs *it)
+{
+    EXPECT_STATUS(YUREWHA_DONE, yurewha_session_from_json(it->text, it->length, true, &it->other));
+}
+
 static void data_hashes(struct runs *it)
 {
     EXPECT_STATUS(YUREWHA_DONE, yurewha_data_hashes(it->chunks, it->count * sizeof *it->chunks, it->offsets,
@@ -179,6 +199,8 @@ static const struct {
     {"keep_hashes of one hash", keep_one_by_one, 3, 420},
     {"keep_hashes of all", keep_all, 0, 320},
     {"known_hashes", known, 0, 32},
+    {"to_json", to_json, 22, 5000},
+    {"from_json", from_json, 47, 8600},
     {"data_hashes", data_hashes, 0, 0},
 };
 

@@ -29,6 +29,8 @@ static struct list {
     yurewha_session session;
     yurewha_hash_tree tree;
     yurewha_opened_range opened;
+    yurewha_part part;
+    yurewha_reader reader;
     yurewha_level levels[LEVELS];
     yurewha_chunk nodes[ROOM];
     size_t level_count, node_count, length;
@@ -58,6 +60,8 @@ static void unmake(void)
     yurewha_session_free(&it.session);
     yurewha_hash_tree_free(&it.tree);
     yurewha_opened_range_free(&it.opened);
+    yurewha_part_free(&it.part);
+    yurewha_reader_free(&it.reader);
     free(it.ranges);
     free(it.text);
     free(it.bytes);
@@ -147,6 +151,90 @@ static void opened_all(void)
     open();
 }
 
+static const yurewha_bytes no_salt = {{0}};
+
+static void open_part(uint64_t from, uint64_t to)
+{
+    yurewha_hash file;
+    uint64_t begin = 0, end = 0;
+    EXPECT_STATUS(YUREWHA_DONE, yurewha_hash_tree_file_hash(&it.tree, &no_salt, &file));
+    EXPECT_STATUS(YUREWHA_DONE, yurewha_part_open(it.levels, it.level_count, it.nodes, it.node_count, &file, &no_salt, from, to, 0, &begin,
+                                                  &end, &it.part));
+}
+
+static void open_all(void) { open_part(0, UINT64_MAX); }
+
+static void part_of_all(void)
+{
+    proof_of_all();
+    open_all();
+}
+
+static void part_of_one(void)
+{
+    const uint64_t from = it.count / 2 * CHUNK;
+    proof_of_one();
+    open_part(from, from + CHUNK);
+}
+
+static void check_part(void)
+{
+    size_t start = 0, count = 0;
+    EXPECT_STATUS(YUREWHA_DONE, yurewha_part_check(&it.part, it.bytes, it.count * CHUNK, true, &start, &count));
+}
+
+static void check_part_alone(void)
+{
+    size_t start = 0, count = 0;
+    EXPECT_STATUS(YUREWHA_DONE, yurewha_part_check(&it.part, it.bytes, it.count * CHUNK, false, &start, &count));
+}
+
+static void check_one_part(void)
+{
+    size_t start = 0, count = 0;
+    EXPECT_STATUS(YUREWHA_DONE, yurewha_part_check(&it.part, it.bytes + it.count / 2 * CHUNK, CHUNK, true, &start, &count));
+}
+
+/* A reader without chunks, and a part of all of them that was checked. */
+static void checked_part(void)
+{
+    yurewha_hash file;
+    part_of_all();
+    check_part();
+    EXPECT_STATUS(YUREWHA_DONE, yurewha_hash_tree_file_hash(&it.tree, &no_salt, &file));
+    EXPECT_STATUS(YUREWHA_DONE, yurewha_reader_new(&file, &no_salt, UINT64_MAX, &it.reader));
+}
+
+static void take(void) { EXPECT_STATUS(YUREWHA_DONE, yurewha_reader_take(&it.reader, &it.part)); }
+
+/* A reader that keeps all chunks. */
+static void taken_all(void)
+{
+    checked_part();
+    take();
+}
+
+static void read_kept(void)
+{
+    uint8_t bytes[CHUNK];
+    size_t filled = 0;
+    uint64_t end = 0;
+    EXPECT_STATUS(YUREWHA_DONE, yurewha_reader_read(&it.reader, it.count / 2 * CHUNK, bytes, CHUNK, 1, &filled, &end));
+    EXPECT(filled == CHUNK && end == it.count / 2 * CHUNK + CHUNK);
+}
+
+static void needs_of_kept(void)
+{
+    uint64_t first = 0, end = 0;
+    const uint64_t from = it.count / 2 * CHUNK;
+    EXPECT_STATUS(YUREWHA_ARGUMENTS, yurewha_reader_needs(&it.reader, from, from + CHUNK, 1, &first, &end));
+}
+
+static void drop_one(void)
+{
+    EXPECT_STATUS(YUREWHA_DONE, yurewha_reader_keep_at_most(&it.reader, it.count * (CHUNK + 128) - 1));
+}
+
 static void put(uint64_t first, const yurewha_chunk *chunks, size_t count)
 {
     uint64_t fresh = 0;
@@ -190,6 +278,15 @@ static void text_of_proof(void)
     it.text = block(it.length);
     EXPECT_STATUS(YUREWHA_DONE, yurewha_range_proof_to_json(it.levels, it.level_count, it.nodes, it.node_count, it.text, it.length,
                                                             &it.length));
+}
+
+static void bytes_of_proof(void)
+{
+    proof_of_all();
+    it.length = 1 + 2 * it.level_count + 40 * it.node_count;
+    it.text = block(it.length);
+    EXPECT_STATUS(YUREWHA_DONE, yurewha_range_proof_to_bytes(it.levels, it.level_count, it.nodes, it.node_count, (uint8_t *)it.text,
+                                                             it.length, &it.length));
 }
 
 /* ---- The calls */
@@ -365,6 +462,18 @@ static void proof_from_json(void)
                                                               &it.node_count));
 }
 
+static void proof_to_bytes(void)
+{
+    EXPECT_STATUS(YUREWHA_DONE, yurewha_range_proof_to_bytes(it.levels, it.level_count, it.nodes, it.node_count, (uint8_t *)it.text,
+                                                             it.length, &it.length));
+}
+
+static void proof_from_bytes(void)
+{
+    EXPECT_STATUS(YUREWHA_DONE, yurewha_range_proof_from_bytes(it.text, it.length, it.levels, LEVELS, it.nodes, ROOM, &it.level_count,
+                                                               &it.node_count));
+}
+
 static const struct {
     const char *name;
     void (*prepare)(void);
@@ -396,12 +505,22 @@ static const struct {
     {"range_proof_open of all", proof_of_all, open, 0, 290},
     {"range_proof_to_json", text_of_proof, proof_to_json, 5, 2000},
     {"range_proof_from_json", text_of_proof, proof_from_json, 5, 1800},
+    {"range_proof_to_bytes", bytes_of_proof, proof_to_bytes, 0, 300},
+    {"range_proof_from_bytes", bytes_of_proof, proof_from_bytes, 0, 250},
     {"opened_range_bytes_of", opened_all, bytes_of_one, 0, 0},
     {"opened_range_check", opened_all, check_one, 0, 0},
     {"opened_range_check of too long data", opened_one, check_too_long, 0, 0},
     {"opened_range_read of too long data", opened_one, read_too_long, 0, 0},
     {"opened_range_read of one chunk", opened_one, read_one, 0, 0},
     {"opened_range_read of all", opened_all, read_all, 0, 0},
+    {"part_open of all", proof_of_all, open_all, 0, 290},
+    {"part_check of one chunk", part_of_one, check_one_part, 0, 0},
+    {"part_check of all", part_of_all, check_part, 2, 150},
+    {"part_check without copies", part_of_all, check_part_alone, 0, 0},
+    {"reader_take of all", checked_part, take, 2, 300},
+    {"reader_read of one chunk", taken_all, read_kept, 0, 0},
+    {"reader_needs of one chunk", taken_all, needs_of_kept, 0, 0},
+    {"reader_keep_at_most", taken_all, drop_one, 0, 0},
     {"session_taken", many_runs, taken, 0, 0},
     {"session_num_runs", many_runs, num_runs, 0, 0},
     {"session_root", one_run, session_root, 0, 0},

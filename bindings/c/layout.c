@@ -20,10 +20,12 @@ static bool has_text(yurewha_status status, const char *text) { return strcmp(te
 /* Each status has a text of its own; other numbers have one and the same, also the two that the library of 1.0 had. */
 static void status_texts(void)
 {
-    for (yurewha_status status = 0; status < 70; status++) {
+    for (yurewha_status status = 0; status < 80; status++) {
         const bool is_known = status <= YUREWHA_MISMATCH || (status > YUREWHA_RULE && status <= YUREWHA_RULE + 13)
             || (status > YUREWHA_PROOF_RULE && status <= YUREWHA_PROOF_RULE + 8)
-            || status == YUREWHA_SESSION_OVERLAP || status == YUREWHA_SESSION_POSITIONS || status == YUREWHA_SESSION_GAP;
+            || (status > YUREWHA_SESSION_RULE && status <= YUREWHA_SESSION_RULE + 7 && status != YUREWHA_SESSION_RULE + 5)
+            || status == YUREWHA_SESSION_OVERLAP || status == YUREWHA_SESSION_POSITIONS || status == YUREWHA_SESSION_GAP
+            || status == YUREWHA_ELSEWHERE || status == YUREWHA_TOO_FAR;
         const struct status_text found = text_of(status);
         row("text of status %u: %s", status, found.text);
         EXPECT(found.text[0] != '\0' && has_text(status, "unknown status") == !is_known);
@@ -34,6 +36,7 @@ static void status_texts(void)
     EXPECT(has_text(YUREWHA_DONE, "the call succeeded") && has_text(YUREWHA_SESSION_MEMORY, "out of memory"));
     EXPECT(has_text(YUREWHA_RULE + 13, "rule 13: right nodes don't begin at a last stable point"));
     EXPECT(has_text(YUREWHA_PROOF_RULE + 5, "rule 5: there is no chunk"));
+    EXPECT(has_text(YUREWHA_SESSION_RULE + 4, "rule 4: a known hash isn't an array of four words"));
     EXPECT(has_text(UINT32_MAX, "unknown status"));
 }
 
@@ -85,6 +88,8 @@ void test_layout(void)
         {"session", sizeof(yurewha_session), sizeof(void *)},
         {"hash tree", sizeof(yurewha_hash_tree), sizeof(void *)},
         {"opened range", sizeof(yurewha_opened_range), sizeof(void *)},
+        {"part", sizeof(yurewha_part), sizeof(void *)},
+        {"reader", sizeof(yurewha_reader), sizeof(void *)},
         {"DONE", YUREWHA_DONE, 0},
         {"ARGUMENTS", YUREWHA_ARGUMENTS, 1},
         {"SIZES", YUREWHA_SIZES, 2},
@@ -99,7 +104,10 @@ void test_layout(void)
         {"SESSION_SIZES, which is SIZES", YUREWHA_SESSION_SIZES, 2},
         {"SESSION_MEMORY, which is MEMORY", YUREWHA_SESSION_MEMORY, 3},
         {"SESSION_GAP", YUREWHA_SESSION_GAP, 37},
+        {"ELSEWHERE", YUREWHA_ELSEWHERE, 38},
+        {"TOO_FAR", YUREWHA_TOO_FAR, 39},
         {"PROOF_RULE", YUREWHA_PROOF_RULE, 48},
+        {"SESSION_RULE", YUREWHA_SESSION_RULE, 64},
     };
     for (size_t i = 0; i < LENGTH(rows); i++) {
         row("%s: %zu", rows[i].name, rows[i].found);

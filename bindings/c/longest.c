@@ -6,7 +6,7 @@
 #include "harness.h"
 
 /* The positions that no session has begin far behind those that they have. */
-enum { LONGEST = (1 << 20) + 1, LEVELS = 64, ROOM = LONGEST + 1024, ROOM_FOR_TEXT = 100 * LONGEST, FAR = 1 << 24 };
+enum { LONGEST = (1 << 20) + 1, LEVELS = 64, ROOM = LONGEST + 1024, ROOM_FOR_TEXT = 120 * LONGEST, FAR = 1 << 24, RUNS_IN_TEXT = 1 << 14 };
 
 /* What the rows are about. */
 static struct {
@@ -258,6 +258,25 @@ static void range_proof_from_json(void)
     free(it.text);
 }
 
+static void range_proof_to_bytes(void)
+{
+    it.length = 1 + 2 * it.level_count + 40 * it.node_count;
+    it.text = block(it.length);
+    EXPECT_STATUS(YUREWHA_DONE, yurewha_range_proof_to_bytes(it.levels, it.level_count, it.nodes, it.node_count, (uint8_t *)it.text,
+                                                             it.length, &it.length));
+}
+
+static void range_proof_from_bytes(void)
+{
+    yurewha_level levels[LEVELS];
+    yurewha_chunk *nodes = block(ROOM * sizeof *nodes);
+    size_t level_count = 0, node_count = 0;
+    EXPECT_STATUS(YUREWHA_DONE, yurewha_range_proof_from_bytes(it.text, it.length, levels, LEVELS, nodes, ROOM, &level_count, &node_count));
+    EXPECT(node_count == it.node_count && memcmp(nodes, it.nodes, node_count * sizeof *nodes) == 0);
+    free(nodes);
+    free(it.text);
+}
+
 static void expect_opened(yurewha_opened_range *range)
 {
     size_t count = 0;
@@ -278,6 +297,42 @@ static void range_proof_open_root(void)
     yurewha_opened_range range = {0};
     EXPECT_STATUS(YUREWHA_DONE, yurewha_range_proof_open_root(it.levels, it.level_count, it.nodes, it.node_count, &it.root, &range));
     expect_opened(&range);
+}
+
+/* ---- Readers and parts */
+
+static void reader_new(void)
+{
+    yurewha_reader reader = {0};
+    EXPECT_STATUS(YUREWHA_DONE, yurewha_reader_new(&it.file, &no_salt, UINT64_MAX, &reader));
+    yurewha_reader_free(&reader);
+}
+
+static void expect_part(yurewha_part *part, uint64_t begin, uint64_t end)
+{
+    uint64_t size = 0;
+    EXPECT_STATUS(YUREWHA_DONE, yurewha_part_file_size(part, &size));
+    EXPECT(size == LONGEST && begin == 0 && end == LONGEST);
+    yurewha_part_free(part);
+}
+
+static void part_open(void)
+{
+    yurewha_part part = {0};
+    uint64_t begin = 1, end = 0;
+    EXPECT_STATUS(YUREWHA_DONE, yurewha_part_open(it.levels, it.level_count, it.nodes, it.node_count, &it.file, &no_salt, 0, UINT64_MAX, 0,
+                                                  &begin, &end, &part));
+    expect_part(&part, begin, end);
+}
+
+static void part_open_json(void)
+{
+    yurewha_part part = {0};
+    uint64_t begin = 1, end = 0;
+    range_proof_to_json();
+    EXPECT_STATUS(YUREWHA_DONE, yurewha_part_open_json(it.text, it.length, &it.file, &no_salt, 0, UINT64_MAX, 0, &begin, &end, &part));
+    expect_part(&part, begin, end);
+    free(it.text);
 }
 
 /* ---- Sessions */
@@ -401,23 +456,49 @@ static void session_known_hashes(void)
     free(hashes);
 }
 
+/* Of as many hashes. A run takes so much memory while it is read that there are fewer. */
+static void session_to_json(void)
+{
+    yurewha_session session = {0};
+    it.text = block(ROOM_FOR_TEXT);
+    EXPECT_STATUS(YUREWHA_DONE, yurewha_session_new(&session));
+    EXPECT_STATUS(YUREWHA_DONE, yurewha_session_keep_hashes(&session, it.hashes, LONGEST));
+    for (size_t i = 0; i < RUNS_IN_TEXT; i++)
+        push(&session, 2 * i, 2 * i + 1, &it.one);
+    EXPECT_STATUS(YUREWHA_DONE, yurewha_session_to_json(&session, true, it.text, ROOM_FOR_TEXT, &it.length));
+    yurewha_session_free(&session);
+}
+
+static void session_from_json(void)
+{
+    yurewha_session read = {0};
+    size_t known = 0, runs = 0;
+    EXPECT_STATUS(YUREWHA_DONE, yurewha_session_from_json(it.text, it.length, true, &read));
+    EXPECT_STATUS(YUREWHA_DONE, yurewha_session_num_known_hashes(&read, &known));
+    EXPECT_STATUS(YUREWHA_DONE, yurewha_session_num_runs(&read, &runs));
+    EXPECT(known == LONGEST && runs == RUNS_IN_TEXT);
+    yurewha_session_free(&read);
+    free(it.text);
+}
+
 #define ROW(call) {#call, call}
 struct call {
     const char *name;
     void (*make)(void);
 };
 
-/* Each reader of JSON comes right after its writer, whose text it frees. */
+/* Each reader of JSON or bytes comes right after its writer, whose text it frees. */
 static const struct call of_lists[] = {
     ROW(base64), ROW(from_base64), ROW(xorb_hash), ROW(file_hash), ROW(file_hash_with_salt), ROW(find_stable_start), ROW(find_stable_end),
     ROW(subtree_from_chunks), ROW(subtree_clone), ROW(subtree_merge_into), ROW(subtree_merge_into_counted), ROW(subtree_to_json),
     ROW(subtree_from_json), ROW(subtree_from_flat), ROW(subtree_merge), ROW(hash_tree_from_chunks), ROW(hash_tree_proof),
-    ROW(range_proof_to_json), ROW(range_proof_from_json), ROW(range_proof_open), ROW(range_proof_open_root),
+    ROW(range_proof_to_json), ROW(range_proof_from_json), ROW(range_proof_to_bytes), ROW(range_proof_from_bytes), ROW(range_proof_open),
+    ROW(range_proof_open_root), ROW(reader_new), ROW(part_open), ROW(part_open_json),
 };
 static const struct call of_sessions[] = {
     ROW(session_new), ROW(session_new_without_hashes), ROW(session_put), ROW(session_run), ROW(session_run_from), ROW(session_root),
     ROW(session_finish), ROW(session_finish_with_salt), ROW(session_copy), ROW(session_push_run), ROW(session_keep_hashes),
-    ROW(session_known_hashes),
+    ROW(session_known_hashes), ROW(session_to_json), ROW(session_from_json),
 };
 
 static void make_calls(const struct call *calls, size_t count)

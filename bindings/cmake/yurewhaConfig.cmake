@@ -3,7 +3,7 @@
 # seen from the library, of which Debian's is one; else where it was installed.
 if(NOT CMAKE_SYSTEM_NAME MATCHES "^(Linux|Windows|Darwin)$")
   set(yurewha_NOT_FOUND_MESSAGE
-    "There is no library for ${CMAKE_SYSTEM_NAME}: it is for Linux on x86_64 and aarch64, and for macOS and Windows on x86_64; elsewhere a Linux \
+    "There is no library for ${CMAKE_SYSTEM_NAME}: it is for Linux and macOS on x86_64 and aarch64, and for Windows on x86_64; elsewhere a Linux \
 container runs it, the JavaScript package runs as it is, and xet-core-structures has the same hashes")
   set(yurewha_FOUND FALSE)
   return()

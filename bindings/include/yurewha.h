@@ -10,8 +10,9 @@
  * Rules for all calls
  *
  * - Most calls return a status. It is YUREWHA_DONE (0) if and only if the call succeeded. After any other status nothing
- *   has changed: no handle, no hasher and no out parameter. There is one exception: with YUREWHA_ROOM, the call writes the
- *   needed length or counts. A call that returns no status can't fail.
+ *   has changed: no handle, no hasher and no out parameter. There are three exceptions: with YUREWHA_ROOM, the call writes the
+ *   needed length or counts; with YUREWHA_ELSEWHERE and YUREWHA_TOO_FAR, it writes where a range is; and yurewha_part_check keeps
+ *   what was right. A call that returns no status can't fail.
  * - No pointer may be null. Each must point to a correctly aligned object of its type. An array is passed with its length
  *   in elements, and must have at least that many. An array of length 0 may be null.
  * - No object that a call writes to may overlap another argument of the call. In particular, the two handles of a call
@@ -24,8 +25,8 @@
  *
  * Handles
  *
- * - yurewha_subtree, yurewha_session, yurewha_hash_tree and yurewha_opened_range are handles. An empty handle is {0} and owns
- *   nothing. Any other handle was written by a call of this library and owns memory.
+ * - yurewha_subtree, yurewha_session, yurewha_hash_tree, yurewha_opened_range, yurewha_part and yurewha_reader are handles. An
+ *   empty handle is {0} and owns nothing. Any other handle was written by a call of this library and owns memory.
  * - A handle that a call writes to must be empty or own something. It must not be uninitialized. If the call succeeds, it
  *   frees what the handle owned before. If it fails, the handle keeps what it owned.
  * - A call leaves a handle as it was, unless its comment says otherwise.
@@ -102,13 +103,21 @@ typedef uint32_t yurewha_status;
 #define YUREWHA_EMPTY_HANDLE 6u /* EmptyHandle: a handle that the call reads is empty */
 #define YUREWHA_MISMATCH 7u     /* ProofMismatch: a range proof doesn't show the hash, or the data isn't that of the range */
 
+/* Calls of a part of a file return these, too. */
+#define YUREWHA_ELSEWHERE 38u /* ProofMismatch: the range of a proof doesn't hold the bytes that are asked for */
+#define YUREWHA_TOO_FAR 39u   /* ProofMismatch: it has more bytes beside them than are allowed */
+
 /* YUREWHA_RULE + rule: a JSON value (InvalidJson) or flat lists (InvalidLists) describe no subtree. They break this rule, from 1
  * to 13, and no rule with a lower number. The rules are listed at yurewha_subtree_from_json. */
 #define YUREWHA_RULE 16u
 
-/* YUREWHA_PROOF_RULE + rule: a JSON value, or flat lists, are no range proof (InvalidProof). They break this rule, which is one
- * of 8, and no rule with a lower number. The rules are listed at yurewha_range_proof_from_json. */
+/* YUREWHA_PROOF_RULE + rule: a JSON value, bytes or flat lists are no range proof (InvalidProof). They break this rule, which is
+ * one of 8, and no rule with a lower number. The rules are listed at yurewha_range_proof_from_json and yurewha_range_proof_from_bytes. */
 #define YUREWHA_PROOF_RULE 48u
+
+/* YUREWHA_SESSION_RULE + rule: the JSON value of a session breaks this rule, which is one of 7, and no rule with a lower number.
+ * The rules are listed at yurewha_session_from_json. For rule 5 the status is YUREWHA_RULE + rule. */
+#define YUREWHA_SESSION_RULE 64u
 
 /* Calls of a session return these, too. */
 #define YUREWHA_SESSION_OVERLAP 33u   /* SessionOverlap: a position is taken */
@@ -167,6 +176,14 @@ typedef struct yurewha_hash_tree {
 typedef struct yurewha_opened_range {
     uint8_t *at;
 } yurewha_opened_range;
+
+typedef struct yurewha_part {
+    uint8_t *at;
+} yurewha_part;
+
+typedef struct yurewha_reader {
+    uint8_t *at;
+} yurewha_reader;
 
 /* The lengths of a hash as hex text and as base64 text, and the greatest length of a status's text. */
 #define YUREWHA_HEX_LENGTH 64u
@@ -645,7 +662,8 @@ void yurewha_session_free(yurewha_session *session);
 
 /* ---- Saving a session: its runs, by yurewha_session_run_from, and the hashes that it knows */
 
-/* To restore a session, push its runs to a new one by rising position, and keep the hashes. */
+/* As JSON: yurewha_session_to_json and yurewha_session_from_json. In another form: push the runs to a new session by rising
+ * position, and keep the hashes. */
 
 /* Adds a run after all runs of a session. Its positions are those from `first` to `end` - 1. The session gets a copy of
  * `range`, the subtree of the run's chunks. `range` is unchanged. The session doesn't know the hashes of these chunks
@@ -691,6 +709,39 @@ yurewha_status yurewha_session_num_known_hashes(yurewha_session *session, size_t
  *   MEMORY        an allocation failed */
 YUREWHA_NODISCARD YUREWHA_NONNULL(1) YUREWHA_SINCE(1.1)
 yurewha_status yurewha_session_known_hashes(yurewha_session *session, yurewha_hash *hashes, size_t count);
+
+/* Writes the compact JSON text of a session to `text`, and its length to `length`. Equal sessions have equal texts: runs
+ * are written by rising position, and hashes by rising order. If `with_hashes` is false, no hash is written.
+ *   DONE          it is written
+ *   ROOM          the text doesn't fit, and `length` is the needed length
+ *   MEMORY        an allocation failed
+ *   EMPTY_HANDLE  if and only if the handle is empty */
+YUREWHA_NODISCARD YUREWHA_NONNULL(1, 5) YUREWHA_SINCE(1.1)
+yurewha_status yurewha_session_to_json(yurewha_session *session, bool with_hashes, char *text, size_t room, size_t *length);
+
+/* Reads a session from JSON text. The handle owns it. If `keep_hashes` is false, the session keeps none, and those of the
+ * text are left out. The value is an object with these members: `runs`, each an object with its positions, from `first` to
+ * `end` - 1, and the subtree of its chunks as `chunks`; and `known_hashes`, each an array of its four words. Members with
+ * other names are ignored. Time and memory are in proportion to the text, so refuse a stranger's text above a limit before
+ * this call.
+ *
+ * The call can't check that a subtree is of as many chunks as its run has positions, as yurewha_session_push_run can't.
+ *   DONE                 it is read
+ *   TEXT                 the text isn't UTF-8 or isn't JSON, or an object in it has a member twice
+ *   SESSION_RULE + rule  the value breaks this rule, and none with a lower number:
+ *                          1  it is an object
+ *                          2  `runs` and `known_hashes` are arrays
+ *                          3  a run is an object with `first` and `end`, whole numbers below 2^64, and `chunks`
+ *                          4  a known hash is an array of four whole numbers below 2^64
+ *                          5  each `chunks` is a subtree; this rule has the next status
+ *                          6  each run can follow those before it: `end` is greater than `first`, its subtree is marked at
+ *                             no end, and the position before `first` and all after it are free
+ *                          7  the sizes of all chunks add up to at most 2^64 - 1
+ *   RULE + rule          it breaks rule 5, and none with a lower number. The first `chunks` that is no subtree breaks this
+ *                        rule of yurewha_subtree_from_json, and none with a lower number
+ *   MEMORY               an allocation failed; this may be returned instead of TEXT or a rule */
+YUREWHA_NODISCARD YUREWHA_NONNULL(4) YUREWHA_SINCE(1.1)
+yurewha_status yurewha_session_from_json(const char *text, size_t length, bool keep_hashes, yurewha_session *session);
 
 /* ---- Hash trees: all levels over a list of chunks, which make range proofs */
 
@@ -801,6 +852,35 @@ YUREWHA_NODISCARD YUREWHA_NONNULL(7, 8) YUREWHA_SINCE(1.1)
 yurewha_status yurewha_range_proof_from_json(const char *text, size_t length, yurewha_level *levels, size_t level_room,
                                              yurewha_chunk *nodes, size_t node_room, size_t *level_count, size_t *node_count);
 
+/* Writes the binary form of a range proof to the beginning of `bytes`, and its length to `byte_count`. It is a byte with
+ * the number of levels; for each level, from the chunks up, two bytes with the numbers of its left and right nodes; and
+ * for each node, in the order of the flat list, the 32 bytes of its hash and the 8 of its size, little-endian. That is 1
+ * byte, 2 for each level, and 40 for each node.
+ *   DONE               it is written
+ *   ROOM               it doesn't fit, and `byte_count` is the needed length
+ *   PROOF_RULE + rule  the lists break this rule, from 5 to 8 of yurewha_range_proof_from_json, and none of these with a
+ *                      lower number
+ *   MEMORY             an allocation failed; this may be returned instead of the two above */
+YUREWHA_NODISCARD YUREWHA_NONNULL(7) YUREWHA_SINCE(1.1)
+yurewha_status yurewha_range_proof_to_bytes(const yurewha_level *levels, size_t level_count, const yurewha_chunk *nodes,
+                                            size_t node_count, uint8_t *bytes, size_t byte_room, size_t *byte_count);
+
+/* Reads a range proof from its binary form, which yurewha_range_proof_to_bytes writes, and writes it as flat lists. Time
+ * and memory are in proportion to the bytes, so refuse more than 2^23 bytes from a stranger, or another limit, before this
+ * call: that many are enough for about 200,000 chunks.
+ *   DONE               the lists are written
+ *   ROOM               a list is longer than its room; nothing is written to either, and `level_count` and `node_count`
+ *                      are the needed lengths. There are at most 64 levels, and a node for each 40 bytes
+ *   PROOF_RULE + rule  the bytes break this rule, and none with a lower number. It is one of these, or of those from 5 to
+ *                      8 of yurewha_range_proof_from_json:
+ *                        1  there is a first byte
+ *                        3  two bytes follow for each level
+ *                        4  whole nodes follow, of 40 bytes each
+ *   MEMORY             an allocation failed; this may be returned instead of the two above */
+YUREWHA_NODISCARD YUREWHA_NONNULL(7, 8) YUREWHA_SINCE(1.1)
+yurewha_status yurewha_range_proof_from_bytes(const void *bytes, size_t length, yurewha_level *levels, size_t level_room,
+                                              yurewha_chunk *nodes, size_t node_room, size_t *level_count, size_t *node_count);
+
 /* Returns whether flat lists are those of a range proof, or which rule they break. It opens nothing, so DONE doesn't say
  * that the proof shows any hash. It allocates nothing.
  *   DONE               if and only if they are those of a range proof
@@ -877,6 +957,158 @@ yurewha_status yurewha_opened_range_read(yurewha_opened_range *range, uint64_t f
 /* Frees what the handle owns, and leaves it empty. */
 YUREWHA_NONNULL(1) YUREWHA_SINCE(1.1)
 void yurewha_opened_range_free(yurewha_opened_range *range);
+
+/* ---- Parts of a file that is somewhere else: they are fetched, checked, and kept in a reader */
+
+/* A reader keeps chunks of a file that were checked. What it doesn't keep is fetched for a part:
+ *
+ *     size_t filled, start, count;
+ *     uint64_t end, begin, stop;
+ *
+ *     yurewha_status status = yurewha_reader_read(&reader, from, bytes, length, piece, &filled, &end);
+ *     // If from + filled < end, ask for a proof of these bytes, which gets levels and nodes.
+ *     status = yurewha_part_open(levels, level_count, nodes, node_count, &hash, &salt, from + filled, end, beyond, &begin, &stop, &part);
+ *     // Fetch the bytes of the file from begin up to stop.
+ *     status = yurewha_part_check(&part, data, data_length, true, &start, &count);
+ *     // Now the bytes that were missing are data[start] and the count - 1 after it.
+ *     status = yurewha_reader_take(&reader, &part);
+ *
+ * Threads may share a reader under a lock: a part of their own needs none. */
+
+/* Makes a reader of the file with a file hash under a salt. The handle owns it. It keeps nothing yet. Its chunks will
+ * count at most `most`, where each counts its bytes and 128 for the memory beside them.
+ *   DONE    it is made
+ *   MEMORY  an allocation failed */
+YUREWHA_NODISCARD YUREWHA_NONNULL(1, 2, 4) YUREWHA_SINCE(1.1)
+yurewha_status yurewha_reader_new(const yurewha_hash *file_hash, const yurewha_bytes *salt, uint64_t most,
+                                  yurewha_reader *reader);
+
+/* Copies the bytes that a reader keeps from the place `from` on to the beginning of `bytes`, as far as they follow one
+ * another, and writes how many these are to `filled`. The rest of `bytes` stays the same. Writes to `end` which bytes are
+ * wanted next: those from `from` + `filled`, which isn't kept, up to, but without, `end`. They are at most `piece`, or one
+ * if that is 0. If `end` is `from` + `filled`, none is: `bytes` is full, or the file has no more.
+ *
+ * Each file with the hash and the salt of the reader has the copied bytes at their places, unless two messages that were
+ * hashed have the same BLAKE3 hash. The chunks that they are of count as used last. It allocates memory for these notes
+ * alone. If there is none, a chunk counts as used when it was before.
+ *   DONE          it is copied and written
+ *   EMPTY_HANDLE  if and only if the handle is empty */
+YUREWHA_NODISCARD YUREWHA_NONNULL(1, 6, 7) YUREWHA_SINCE(1.1)
+yurewha_status yurewha_reader_read(yurewha_reader *reader, uint64_t from, uint8_t *bytes, size_t count, uint64_t piece,
+                                   size_t *filled, uint64_t *end);
+
+/* Writes what is missing of the bytes from the place `from` up to, but without, the place `to`, or up to the end of the
+ * file if its size is known. `first` gets the place of the first byte that isn't kept, and `end` the place up to which the
+ * bytes from there on are wanted: at most `piece` of them, or one if that is 0. It allocates nothing.
+ *   DONE          they are written
+ *   ARGUMENTS     if and only if there is a reader, and it keeps all these bytes
+ *   EMPTY_HANDLE  if and only if the handle is empty */
+YUREWHA_NODISCARD YUREWHA_NONNULL(1, 5, 6) YUREWHA_SINCE(1.1)
+yurewha_status yurewha_reader_needs(yurewha_reader *reader, uint64_t from, uint64_t to, uint64_t piece, uint64_t *first,
+                                    uint64_t *end);
+
+/* Writes the size of the file in bytes. It is known once a part with a checked chunk was taken. It allocates nothing.
+ *
+ * Each file with the hash and the salt of the reader has this size, unless two messages that were hashed have the same
+ * BLAKE3 hash.
+ *   DONE          it is written
+ *   ARGUMENTS     if and only if there is a reader, and the size isn't known yet
+ *   EMPTY_HANDLE  if and only if the handle is empty */
+YUREWHA_NODISCARD YUREWHA_NONNULL(1, 2) YUREWHA_SINCE(1.1)
+yurewha_status yurewha_reader_size(yurewha_reader *reader, uint64_t *size);
+
+/* Writes what all chunks of a reader count: their bytes, and 128 for each. It allocates nothing.
+ *   DONE          it is written
+ *   EMPTY_HANDLE  the handle is empty */
+YUREWHA_NODISCARD YUREWHA_NONNULL(1, 2) YUREWHA_SINCE(1.1)
+yurewha_status yurewha_reader_counted(yurewha_reader *reader, uint64_t *counted);
+
+/* Changes what all chunks of a reader may count to `most`. Drops the chunks that were used longest ago until they do. It
+ * allocates nothing.
+ *   DONE          it is changed
+ *   EMPTY_HANDLE  if and only if the handle is empty */
+YUREWHA_NODISCARD YUREWHA_NONNULL(1) YUREWHA_SINCE(1.1)
+yurewha_status yurewha_reader_keep_at_most(yurewha_reader *reader, uint64_t most);
+
+/* Moves the chunks of a part that were checked to a reader, one after another, and then drops the chunks that were used
+ * longest ago until all count as much as they may. Frees the part, and leaves its handle empty. If a chunk was checked,
+ * the size of the file is known from now on. It hashes nothing, and copies no data. A chunk for which an allocation fails
+ * isn't kept.
+ *   DONE          the chunks are moved
+ *   ARGUMENTS     if and only if neither handle is empty, and the part is of another file hash or salt than the reader, or
+ *                 its proof says another size of the file than is known
+ *   EMPTY_HANDLE  if and only if a handle is empty */
+YUREWHA_NODISCARD YUREWHA_NONNULL(1, 2) YUREWHA_SINCE(1.1)
+yurewha_status yurewha_reader_take(yurewha_reader *reader, yurewha_part *part);
+
+/* Opens a range proof with a file hash under a salt, for the bytes of the file from the place `from` up to, but without,
+ * the place `to`, or up to the end of the file if that comes first. The handle owns the part. Writes where in the file the
+ * proof's range begins and ends: the data of these places is what yurewha_part_check checks. A part needs nothing of a
+ * reader: any number may be open at once, and may be checked and taken in any order.
+ *
+ * A proof of a file without bytes is opened for any places. Its range ends where it begins.
+ *   DONE               the proof shows the file hash, and its range holds the bytes
+ *   PROOF_RULE + rule  the lists break this rule, from 5 to 8 of yurewha_range_proof_from_json, and none of these with a
+ *                      lower number
+ *   MISMATCH           the proof doesn't show the file hash
+ *   ELSEWHERE          it does, and the file has bytes, but the range doesn't hold those that are asked for, or the file
+ *                      ends before them. `begin` and `end` are written
+ *   TOO_FAR            the range holds them, but begins more than `beyond` bytes before them, or ends more than that after
+ *                      them. `begin` and `end` are written
+ *   MEMORY             an allocation failed; this may be returned instead of another one */
+YUREWHA_NODISCARD YUREWHA_NONNULL(5, 6, 10, 11, 12) YUREWHA_SINCE(1.1)
+yurewha_status yurewha_part_open(const yurewha_level *levels, size_t level_count, const yurewha_chunk *nodes,
+                                 size_t node_count, const yurewha_hash *file_hash, const yurewha_bytes *salt, uint64_t from,
+                                 uint64_t to, uint64_t beyond, uint64_t *begin, uint64_t *end, yurewha_part *part);
+
+/* Does the same as yurewha_part_open with a range proof that is JSON text, as yurewha_range_proof_from_json reads it.
+ * Refuse a text that is too long before this call, as is said there. The other statuses are those of yurewha_part_open.
+ *   TEXT               the text isn't UTF-8, or isn't JSON
+ *   PROOF_RULE + rule  the value breaks this rule of yurewha_range_proof_from_json, and none with a lower number
+ *   MEMORY             an allocation failed; this may be returned instead of another one */
+YUREWHA_NODISCARD YUREWHA_NONNULL(3, 4, 8, 9, 10) YUREWHA_SINCE(1.1)
+yurewha_status yurewha_part_open_json(const char *text, size_t length, const yurewha_hash *file_hash,
+                                      const yurewha_bytes *salt, uint64_t from, uint64_t to, uint64_t beyond, uint64_t *begin,
+                                      uint64_t *end, yurewha_part *part);
+
+/* Checks the data of all chunks of a part's range, which come one after another with nothing else, and finds the wanted
+ * bytes in it: they are the `count` bytes from `data[start]` on, and are all that were asked for, or all up to the end of
+ * the file.
+ *
+ * `data` may be cut off anywhere or wrong. If `keep` is true, the part gets copies of the first chunks that are right, up
+ * to the first one that is wrong, whatever is returned, instead of those of an earlier call; a chunk for which an
+ * allocation fails isn't copied. If `keep` is false, the part has no chunks, and the call allocates nothing.
+ *
+ * After DONE, each file with the hash and the salt has these bytes at their place, unless two messages that were hashed
+ * have the same BLAKE3 hash.
+ *   DONE          the data is that of the range's chunks
+ *   MISMATCH      it isn't. yurewha_part_checked says how much of it is
+ *   EMPTY_HANDLE  if and only if the handle is empty */
+YUREWHA_NODISCARD YUREWHA_NONNULL(1, 5, 6) YUREWHA_SINCE(1.1)
+yurewha_status yurewha_part_check(yurewha_part *part, const void *data, size_t length, bool keep, size_t *start, size_t *count);
+
+/* Writes the size of the file in bytes as the proof of a part says it. It is the proof's own word until data was checked.
+ * It allocates nothing.
+ *   DONE          it is written
+ *   EMPTY_HANDLE  the handle is empty */
+YUREWHA_NODISCARD YUREWHA_NONNULL(1, 2) YUREWHA_SINCE(1.1)
+yurewha_status yurewha_part_file_size(yurewha_part *part, uint64_t *size);
+
+/* Writes how many chunks of a part's range the last yurewha_part_check found right, and where in the file they end, in
+ * bytes. The first chunk that was wrong has this number, as the chunks of the range count from 0, and begins at this
+ * place. If all chunks were right, these are the number of chunks and the end of the range. It allocates nothing.
+ *   DONE          they are written
+ *   EMPTY_HANDLE  the handle is empty */
+YUREWHA_NODISCARD YUREWHA_NONNULL(1, 2, 3) YUREWHA_SINCE(1.1)
+yurewha_status yurewha_part_checked(yurewha_part *part, size_t *chunks, uint64_t *place);
+
+/* Frees what the handle owns, and leaves it empty. */
+YUREWHA_NONNULL(1) YUREWHA_SINCE(1.1)
+void yurewha_reader_free(yurewha_reader *reader);
+
+/* Frees what the handle owns, and leaves it empty. */
+YUREWHA_NONNULL(1) YUREWHA_SINCE(1.1)
+void yurewha_part_free(yurewha_part *part);
 
 #ifdef __cplusplus
 }

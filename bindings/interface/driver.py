@@ -12,9 +12,17 @@ from header import FOR_C, Export, Header, Unreadable
 TELLS_TEXT = "yurewha_processor_level"
 #: The calls that change their first handle or hasher. The others leave what they read unchanged.
 CHANGES_FIRST = ("yurewha_hasher_update", "yurewha_subtree_merge_into", "yurewha_subtree_merge_into_counted", "yurewha_session_put",
-                 "yurewha_session_push_run", "yurewha_session_keep_hashes")
-#: The calls that read their last handle. Any other call that has one makes it.
+                 "yurewha_session_push_run", "yurewha_session_keep_hashes", "yurewha_reader_read", "yurewha_reader_keep_at_most",
+                 "yurewha_reader_take", "yurewha_part_check")
+#: The calls that read their last handle, and those that empty it. Any other call that has one makes it.
 READS_LAST = ("yurewha_subtree_merge_into", "yurewha_session_push_run")
+EMPTIES_LAST = ("yurewha_reader_take",)
+#: The calls that ask for memory and can do without it.
+SPARES_MEMORY = ("yurewha_reader_read", "yurewha_reader_take", "yurewha_part_check")
+#: The calls that change their handle whatever they return.
+CHANGES_ANYWAY = ("yurewha_part_check",)
+#: The calls that fill the front of an array of any length.
+FILLS_FRONT = ("yurewha_reader_read",)
 TYPES = {"char": "BYTE", "uint8_t": "BYTE", "bool": "TRUTH", "uint32_t": "NUMBER", "uint64_t": "NUMBER", "size_t": "NUMBER",
          "yurewha_status": "NUMBER", "yurewha_hash": "HASH", "yurewha_bytes": "KEY", "yurewha_chunk": "CHUNK", "yurewha_level": "LEVEL"}
 ANSWERS = {"void": "NOTHING", "yurewha_status": "STATUS", "int32_t": "SIGNED", "uint32_t": "COUNT", "uint64_t": "COUNT"}
@@ -49,6 +57,8 @@ def of_object(export: Export, i: int) -> str:
         return "FREED"
     if i == 0 and export.name in CHANGES_FIRST:
         return "CHANGED"
+    if i == len(export.parameters) - 1 and export.name in EMPTIES_LAST:
+        return "EMPTIED"
     is_made = "_begin_" in export.name or i == len(export.parameters) - 1 and export.name not in READS_LAST
     return "MADE" if is_made else "READ"
 
@@ -63,7 +73,8 @@ def purpose(export: Export, i: int) -> str:
         raise Unreadable(f"{export.name}: bindings/c/driver knows no {it.type}")
     is_const, is_list = it.type.startswith("const "), is_length(export, i + 1)
     if is_list:
-        role = "LIST" if is_const else "ROOM" if export.parameters[i + 1].name.endswith("room") else "EXACT"
+        role = "LIST" if is_const else "ROOM" if export.parameters[i + 1].name.endswith("room") else \
+            "FRONT" if export.name in FILLS_FRONT else "EXACT"
     elif is_const or not it.type.endswith("*"):
         role = "GIVEN"
     else:
@@ -104,7 +115,9 @@ def function(export: Export) -> str:
 def row(export: Export, takes_memory: bool) -> str:
     name = export.name.removeprefix("yurewha_")
     purposes = [purpose(export, i) for i in range(len(export.parameters)) if not is_length(export, i)]
-    words = [f'"{name}"', f"call_{name}", ANSWERS[export.answer], "true" if takes_memory else "false", str(len(purposes))]
+    memory_of = "REFUSES" if takes_memory else "SPARES" if export.name in SPARES_MEMORY else "ASKS_NONE"
+    changes = "true" if export.name in CHANGES_ANYWAY else "false"
+    words = [f'"{name}"', f"call_{name}", ANSWERS[export.answer], memory_of, changes, str(len(purposes))]
     return wrapped(f"{{{', '.join(words)}, {{{', '.join(purposes)}}}}},", "    ")
 
 

@@ -22,9 +22,11 @@ STRUCTS = {
     "SessionHandle": "yurewha_session",
     "HashTreeHandle": "yurewha_hash_tree",
     "OpenedRangeHandle": "yurewha_opened_range",
+    "PartHandle": "yurewha_part",
+    "ReaderHandle": "yurewha_reader",
 }
 #: What C calls a parameter that has another name in the crate. In a contract, `length` and `result` mean something else.
-NAMES = {"room": "text", "text_len": "length", "level_len": "level_count", "node_len": "node_count", "keyed": "result"}
+NAMES = {"room": "text", "text_len": "length", "level_len": "level_count", "node_len": "node_count", "byte_len": "byte_count", "keyed": "result"}
 #: An export: its comment, its name, its parameters and its answer.
 EXPORT = re.compile(
     r"(?P<comment>(?:^///.*\n)*)(?:^#\[.*\n)*?^#\[unsafe\(no_mangle\)\]\n"

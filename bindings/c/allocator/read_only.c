@@ -72,14 +72,21 @@ static struct {
     yurewha_session session;
     yurewha_hash_tree tree;
     yurewha_opened_range range;
+    yurewha_part part;
+    yurewha_reader reader;
 } made;
 static uint8_t data[CHUNKS];
 static const yurewha_bytes salt = {{7}};
+/* The file hash, and the proof of the chunks from FIRST up to END. */
+static yurewha_hash file;
+static yurewha_level levels[LEVELS];
+static yurewha_chunk nodes[CHUNKS + 1024];
+static size_t level_count, node_count;
 
 /* All that is read of them. Each answer is copied here, so that two of them are compared by their bytes. */
 struct answers {
     yurewha_hash hashes[5];
-    uint64_t numbers[22];
+    uint64_t numbers[29];
     yurewha_hash known[CHUNKS];
     yurewha_chunk nodes[CHUNKS + 1024];
     yurewha_level levels[LEVELS];
@@ -93,6 +100,8 @@ struct answers {
 #define SESSION COPY(yurewha_session, made.session)
 #define TREE COPY(yurewha_hash_tree, made.tree)
 #define RANGE COPY(yurewha_opened_range, made.range)
+#define PART COPY(yurewha_part, made.part)
+#define READER COPY(yurewha_reader, made.reader)
 
 static void read_subtree(struct answers *to)
 {
@@ -139,6 +148,7 @@ static void read_session(struct answers *to)
     EXPECT(yurewha_session_finish(SESSION, CHUNKS, &to->hashes[2]) == YUREWHA_DONE);
     EXPECT(yurewha_session_num_known_hashes(SESSION, &known) == YUREWHA_DONE && known == CHUNKS);
     EXPECT(yurewha_session_known_hashes(SESSION, to->known, CHUNKS) == YUREWHA_DONE);
+    EXPECT(yurewha_session_to_json(SESSION, true, to->text, TEXT, &known) == YUREWHA_DONE);
     uint8_t is_known[2] = {0};
     EXPECT(yurewha_session_knows(SESSION, &to->known[CHUNKS - 1], &taken) == YUREWHA_DONE && taken);
     EXPECT(yurewha_session_knows_each(SESSION, to->known, 2, is_known, 2) == YUREWHA_DONE && is_known[0] && is_known[1]);
@@ -177,6 +187,48 @@ static void read_range(struct answers *to)
     to->numbers[19] = start;
 }
 
+static void open_part(yurewha_part *part)
+{
+    uint64_t begin = 0, end = 0;
+    EXPECT(yurewha_part_open(levels, level_count, nodes, node_count, &file, &salt, FIRST, END, 0, &begin, &end, part) == YUREWHA_DONE);
+    EXPECT(begin == FIRST && end == END);
+}
+
+/* A part that was checked, and a reader that takes one. */
+static void make_reader(yurewha_part *part, yurewha_reader *reader)
+{
+    yurewha_part other = {0};
+    size_t start = 0, count = 0;
+    EXPECT(yurewha_reader_new(&file, &salt, UINT64_MAX, reader) == YUREWHA_DONE);
+    open_part(&other);
+    EXPECT(yurewha_part_check(&other, data + FIRST, END - FIRST, true, &start, &count) == YUREWHA_DONE);
+    EXPECT(yurewha_reader_take(reader, &other) == YUREWHA_DONE);
+    open_part(part);
+    EXPECT(yurewha_part_check(part, data + FIRST, 3, true, &start, &count) == YUREWHA_MISMATCH);
+}
+
+/* A reader of this thread's own is changed, and the one of all threads is read. */
+static void read_reader(struct answers *to)
+{
+    yurewha_part part = {0};
+    yurewha_reader reader = {0};
+    size_t chunks = 0, filled = 0;
+    uint8_t bytes[END - FIRST];
+    make_reader(&part, &reader);
+    EXPECT(yurewha_reader_read(&reader, FIRST, bytes, sizeof bytes, 1, &filled, &to->numbers[20]) == YUREWHA_DONE);
+    EXPECT(filled == sizeof bytes && memcmp(bytes, data + FIRST, sizeof bytes) == 0);
+    EXPECT(yurewha_reader_keep_at_most(&reader, 0) == YUREWHA_DONE);
+    yurewha_part_free(&part);
+    yurewha_reader_free(&reader);
+    EXPECT(yurewha_part_file_size(PART, &to->numbers[21]) == YUREWHA_DONE && to->numbers[21] == CHUNKS);
+    EXPECT(yurewha_part_checked(PART, &chunks, &to->numbers[22]) == YUREWHA_DONE && chunks == 3 && to->numbers[22] == FIRST + 3);
+    EXPECT(yurewha_reader_size(READER, &to->numbers[23]) == YUREWHA_DONE && to->numbers[23] == CHUNKS);
+    EXPECT(yurewha_reader_counted(READER, &to->numbers[24]) == YUREWHA_DONE && to->numbers[24] == (END - FIRST) * 129);
+    EXPECT(yurewha_reader_needs(READER, FIRST, CHUNKS, 7, &to->numbers[25], &to->numbers[26]) == YUREWHA_DONE);
+    EXPECT(to->numbers[25] == END && to->numbers[26] == END + 7);
+    EXPECT(yurewha_reader_needs(READER, FIRST, END, 7, &to->numbers[27], &to->numbers[28]) == YUREWHA_ARGUMENTS);
+}
+
 /* The answers to all questions, again and again. Returns the last ones. */
 static void *read_all(void *given)
 {
@@ -186,17 +238,15 @@ static void *read_all(void *given)
         read_session(to);
         read_tree(to);
         read_range(to);
+        read_reader(to);
     }
     return NULL;
 }
 
 static void make_all(void)
 {
-    static yurewha_chunk chunks[CHUNKS], nodes[CHUNKS + 1024];
-    yurewha_level levels[LEVELS];
-    yurewha_hash file;
+    static yurewha_chunk chunks[CHUNKS];
     uint64_t fresh = 0;
-    size_t level_count = 0, node_count = 0;
     for (size_t i = 0; i < CHUNKS; i++) {
         data[i] = (uint8_t)i;
         yurewha_data_hash(data + i, 1, &chunks[i].hash);
@@ -215,6 +265,7 @@ static void make_all(void)
     EXPECT(yurewha_hash_tree_proof(&made.tree, FIRST, END, levels, LEVELS, nodes, CHUNKS + 1024, &level_count, &node_count)
            == YUREWHA_DONE);
     EXPECT(yurewha_range_proof_open(levels, level_count, nodes, node_count, &file, &salt, &made.range) == YUREWHA_DONE);
+    make_reader(&made.part, &made.reader);
 }
 
 /* Ends a program that wrote to a closed page, without a word of the shell or of qemu. */
@@ -263,6 +314,8 @@ int main(void)
     yurewha_session_free(&made.session);
     yurewha_hash_tree_free(&made.tree);
     yurewha_opened_range_free(&made.range);
+    yurewha_part_free(&made.part);
+    yurewha_reader_free(&made.reader);
     munmap(pages, ROOM);
     free(answers);
     printf("%d threads read the same objects, which lie in %zu bytes that nobody may write to\n", THREADS, used);

@@ -348,6 +348,18 @@ static uint64_t call_session_known_hashes(const struct argument *a)
     return yurewha_session_known_hashes((yurewha_session *)a[0].data, (yurewha_hash *)a[1].data, a[1].count);
 }
 
+static uint64_t call_session_to_json(const struct argument *a)
+{
+    return yurewha_session_to_json((yurewha_session *)a[0].data, a[1].number != 0, (char *)a[2].data, a[2].count,
+        (size_t *)a[3].data);
+}
+
+static uint64_t call_session_from_json(const struct argument *a)
+{
+    return yurewha_session_from_json((const char *)a[0].data, a[0].count, a[1].number != 0,
+        (yurewha_session *)a[2].data);
+}
+
 static uint64_t call_hash_tree_from_chunks(const struct argument *a)
 {
     return yurewha_hash_tree_from_chunks((const yurewha_chunk *)a[0].data, a[0].count, (yurewha_hash_tree *)a[1].data);
@@ -411,6 +423,18 @@ static uint64_t call_range_proof_from_json(const struct argument *a)
         (yurewha_chunk *)a[2].data, a[2].count, (size_t *)a[3].data, (size_t *)a[4].data);
 }
 
+static uint64_t call_range_proof_to_bytes(const struct argument *a)
+{
+    return yurewha_range_proof_to_bytes((const yurewha_level *)a[0].data, a[0].count, (const yurewha_chunk *)a[1].data,
+        a[1].count, (uint8_t *)a[2].data, a[2].count, (size_t *)a[3].data);
+}
+
+static uint64_t call_range_proof_from_bytes(const struct argument *a)
+{
+    return yurewha_range_proof_from_bytes((const char *)a[0].data, a[0].count, (yurewha_level *)a[1].data, a[1].count,
+        (yurewha_chunk *)a[2].data, a[2].count, (size_t *)a[3].data, (size_t *)a[4].data);
+}
+
 static uint64_t call_range_proof_check(const struct argument *a)
 {
     return yurewha_range_proof_check((const yurewha_level *)a[0].data, a[0].count, (const yurewha_chunk *)a[1].data,
@@ -464,111 +488,232 @@ static uint64_t call_opened_range_free(const struct argument *a)
     return 0;
 }
 
+static uint64_t call_reader_new(const struct argument *a)
+{
+    return yurewha_reader_new((const yurewha_hash *)a[0].data, (const yurewha_bytes *)a[1].data, (uint64_t)a[2].number,
+        (yurewha_reader *)a[3].data);
+}
+
+static uint64_t call_reader_read(const struct argument *a)
+{
+    return yurewha_reader_read((yurewha_reader *)a[0].data, (uint64_t)a[1].number, (uint8_t *)a[2].data, a[2].count,
+        (uint64_t)a[3].number, (size_t *)a[4].data, (uint64_t *)a[5].data);
+}
+
+static uint64_t call_reader_needs(const struct argument *a)
+{
+    return yurewha_reader_needs((yurewha_reader *)a[0].data, (uint64_t)a[1].number, (uint64_t)a[2].number,
+        (uint64_t)a[3].number, (uint64_t *)a[4].data, (uint64_t *)a[5].data);
+}
+
+static uint64_t call_reader_size(const struct argument *a)
+{
+    return yurewha_reader_size((yurewha_reader *)a[0].data, (uint64_t *)a[1].data);
+}
+
+static uint64_t call_reader_counted(const struct argument *a)
+{
+    return yurewha_reader_counted((yurewha_reader *)a[0].data, (uint64_t *)a[1].data);
+}
+
+static uint64_t call_reader_keep_at_most(const struct argument *a)
+{
+    return yurewha_reader_keep_at_most((yurewha_reader *)a[0].data, (uint64_t)a[1].number);
+}
+
+static uint64_t call_reader_take(const struct argument *a)
+{
+    return yurewha_reader_take((yurewha_reader *)a[0].data, (yurewha_part *)a[1].data);
+}
+
+static uint64_t call_part_open(const struct argument *a)
+{
+    return yurewha_part_open((const yurewha_level *)a[0].data, a[0].count, (const yurewha_chunk *)a[1].data, a[1].count,
+        (const yurewha_hash *)a[2].data, (const yurewha_bytes *)a[3].data, (uint64_t)a[4].number, (uint64_t)a[5].number,
+        (uint64_t)a[6].number, (uint64_t *)a[7].data, (uint64_t *)a[8].data, (yurewha_part *)a[9].data);
+}
+
+static uint64_t call_part_open_json(const struct argument *a)
+{
+    return yurewha_part_open_json((const char *)a[0].data, a[0].count, (const yurewha_hash *)a[1].data,
+        (const yurewha_bytes *)a[2].data, (uint64_t)a[3].number, (uint64_t)a[4].number, (uint64_t)a[5].number,
+        (uint64_t *)a[6].data, (uint64_t *)a[7].data, (yurewha_part *)a[8].data);
+}
+
+static uint64_t call_part_check(const struct argument *a)
+{
+    return yurewha_part_check((yurewha_part *)a[0].data, (const char *)a[1].data, a[1].count, a[2].number != 0,
+        (size_t *)a[3].data, (size_t *)a[4].data);
+}
+
+static uint64_t call_part_file_size(const struct argument *a)
+{
+    return yurewha_part_file_size((yurewha_part *)a[0].data, (uint64_t *)a[1].data);
+}
+
+static uint64_t call_part_checked(const struct argument *a)
+{
+    return yurewha_part_checked((yurewha_part *)a[0].data, (size_t *)a[1].data, (uint64_t *)a[2].data);
+}
+
+static uint64_t call_reader_free(const struct argument *a)
+{
+    yurewha_reader_free((yurewha_reader *)a[0].data);
+    return 0;
+}
+
+static uint64_t call_part_free(const struct argument *a)
+{
+    yurewha_part_free((yurewha_part *)a[0].data);
+    return 0;
+}
+
 const struct call calls[] = {
-    {"version", call_version, STATUS, false, 2, {{ROOM, BYTE}, {NEEDED, NUMBER}}},
-    {"status_text", call_status_text, STATUS, false, 3, {{GIVEN, NUMBER}, {ROOM, BYTE}, {NEEDED, NUMBER}}},
-    {"data_hash", call_data_hash, NOTHING, false, 2, {{LIST, BYTE}, {OUT, HASH}}},
-    {"internal_node_hash", call_internal_node_hash, NOTHING, false, 2, {{LIST, BYTE}, {OUT, HASH}}},
-    {"hmac", call_hmac, NOTHING, false, 3, {{GIVEN, HASH}, {GIVEN, HASH}, {OUT, HASH}}},
-    {"random_from_seed", call_random_from_seed, NOTHING, false, 2, {{GIVEN, NUMBER}, {OUT, HASH}}},
-    {"hash_to_bytes", call_hash_to_bytes, NOTHING, false, 2, {{GIVEN, HASH}, {OUT, KEY}}},
-    {"hash_from_bytes", call_hash_from_bytes, NOTHING, false, 2, {{GIVEN, KEY}, {OUT, HASH}}},
-    {"compare", call_compare, SIGNED, false, 2, {{GIVEN, HASH}, {GIVEN, HASH}}},
-    {"remainder", call_remainder, STATUS, false, 3, {{GIVEN, HASH}, {GIVEN, NUMBER}, {OUT, NUMBER}}},
-    {"data_hashes", call_data_hashes, STATUS, false, 3, {{LIST, BYTE}, {LIST, NUMBER}, {EXACT, HASH}}},
-    {"hex", call_hex, STATUS, false, 3, {{GIVEN, HASH}, {ROOM, BYTE}, {NEEDED, NUMBER}}},
-    {"from_hex", call_from_hex, STATUS, false, 2, {{LIST, BYTE}, {OUT, HASH}}},
-    {"base64", call_base64, STATUS, true, 3, {{GIVEN, HASH}, {ROOM, BYTE}, {NEEDED, NUMBER}}},
-    {"from_base64", call_from_base64, STATUS, true, 2, {{LIST, BYTE}, {OUT, HASH}}},
-    {"hasher_begin_data", call_hasher_begin_data, NOTHING, false, 1, {{MADE, HASHER}}},
-    {"hasher_begin_internal", call_hasher_begin_internal, NOTHING, false, 1, {{MADE, HASHER}}},
-    {"hasher_begin_keyed", call_hasher_begin_keyed, NOTHING, false, 2, {{MADE, HASHER}, {GIVEN, KEY}}},
-    {"hasher_count", call_hasher_count, COUNT, false, 1, {{READ, HASHER}}},
-    {"hasher_update", call_hasher_update, STATUS, false, 2, {{CHANGED, HASHER}, {LIST, BYTE}}},
-    {"hasher_finalize", call_hasher_finalize, NOTHING, false, 2, {{READ, HASHER}, {OUT, HASH}}},
-    {"xorb_hash", call_xorb_hash, STATUS, true, 2, {{LIST, CHUNK}, {OUT, HASH}}},
-    {"file_hash", call_file_hash, STATUS, true, 2, {{LIST, CHUNK}, {OUT, HASH}}},
-    {"file_hash_with_salt", call_file_hash_with_salt, STATUS, true, 3, {{LIST, CHUNK}, {GIVEN, KEY}, {OUT, HASH}}},
-    {"find_stable_start", call_find_stable_start, STATUS, true, 2, {{LIST, CHUNK}, {OUT, NUMBER}}},
-    {"find_stable_end", call_find_stable_end, STATUS, true, 2, {{LIST, CHUNK}, {OUT, NUMBER}}},
-    {"subtree_from_chunks", call_subtree_from_chunks, STATUS, true, 4, {{GIVEN, TRUTH}, {LIST, CHUNK}, {GIVEN, TRUTH},
-        {MADE, SUBTREE}}},
-    {"subtree_clone", call_subtree_clone, STATUS, true, 2, {{READ, SUBTREE}, {MADE, SUBTREE}}},
-    {"subtree_equal", call_subtree_equal, STATUS, false, 3, {{READ, SUBTREE}, {READ, SUBTREE}, {OUT, TRUTH}}},
-    {"subtree_marks", call_subtree_marks, STATUS, false, 3, {{READ, SUBTREE}, {OUT, TRUTH}, {OUT, TRUTH}}},
-    {"subtree_total_size", call_subtree_total_size, STATUS, false, 2, {{READ, SUBTREE}, {OUT, NUMBER}}},
-    {"subtree_num_nodes", call_subtree_num_nodes, STATUS, false, 2, {{READ, SUBTREE}, {OUT, NUMBER}}},
-    {"subtree_num_levels", call_subtree_num_levels, STATUS, false, 2, {{READ, SUBTREE}, {OUT, NUMBER}}},
-    {"subtree_final_hash", call_subtree_final_hash, STATUS, false, 2, {{READ, SUBTREE}, {OUT, HASH}}},
-    {"subtree_merge_into", call_subtree_merge_into, STATUS, true, 2, {{CHANGED, SUBTREE}, {READ, SUBTREE}}},
-    {"subtree_merge_into_counted", call_subtree_merge_into_counted, STATUS, true, 3, {{CHANGED, SUBTREE},
-        {READ, SUBTREE}, {OUT, NUMBER}}},
-    {"subtree_merge", call_subtree_merge, STATUS, true, 2, {{LIST, SUBTREE}, {MADE, SUBTREE}}},
-    {"subtree_to_json", call_subtree_to_json, STATUS, true, 3, {{READ, SUBTREE}, {ROOM, BYTE}, {NEEDED, NUMBER}}},
-    {"subtree_from_json", call_subtree_from_json, STATUS, true, 2, {{LIST, BYTE}, {MADE, SUBTREE}}},
-    {"subtree_from_flat", call_subtree_from_flat, STATUS, true, 5, {{GIVEN, TRUTH}, {LIST, LEVEL}, {LIST, CHUNK},
+    {"version", call_version, STATUS, ASKS_NONE, false, 2, {{ROOM, BYTE}, {NEEDED, NUMBER}}},
+    {"status_text", call_status_text, STATUS, ASKS_NONE, false, 3, {{GIVEN, NUMBER}, {ROOM, BYTE}, {NEEDED, NUMBER}}},
+    {"data_hash", call_data_hash, NOTHING, ASKS_NONE, false, 2, {{LIST, BYTE}, {OUT, HASH}}},
+    {"internal_node_hash", call_internal_node_hash, NOTHING, ASKS_NONE, false, 2, {{LIST, BYTE}, {OUT, HASH}}},
+    {"hmac", call_hmac, NOTHING, ASKS_NONE, false, 3, {{GIVEN, HASH}, {GIVEN, HASH}, {OUT, HASH}}},
+    {"random_from_seed", call_random_from_seed, NOTHING, ASKS_NONE, false, 2, {{GIVEN, NUMBER}, {OUT, HASH}}},
+    {"hash_to_bytes", call_hash_to_bytes, NOTHING, ASKS_NONE, false, 2, {{GIVEN, HASH}, {OUT, KEY}}},
+    {"hash_from_bytes", call_hash_from_bytes, NOTHING, ASKS_NONE, false, 2, {{GIVEN, KEY}, {OUT, HASH}}},
+    {"compare", call_compare, SIGNED, ASKS_NONE, false, 2, {{GIVEN, HASH}, {GIVEN, HASH}}},
+    {"remainder", call_remainder, STATUS, ASKS_NONE, false, 3, {{GIVEN, HASH}, {GIVEN, NUMBER}, {OUT, NUMBER}}},
+    {"data_hashes", call_data_hashes, STATUS, ASKS_NONE, false, 3, {{LIST, BYTE}, {LIST, NUMBER}, {EXACT, HASH}}},
+    {"hex", call_hex, STATUS, ASKS_NONE, false, 3, {{GIVEN, HASH}, {ROOM, BYTE}, {NEEDED, NUMBER}}},
+    {"from_hex", call_from_hex, STATUS, ASKS_NONE, false, 2, {{LIST, BYTE}, {OUT, HASH}}},
+    {"base64", call_base64, STATUS, REFUSES, false, 3, {{GIVEN, HASH}, {ROOM, BYTE}, {NEEDED, NUMBER}}},
+    {"from_base64", call_from_base64, STATUS, REFUSES, false, 2, {{LIST, BYTE}, {OUT, HASH}}},
+    {"hasher_begin_data", call_hasher_begin_data, NOTHING, ASKS_NONE, false, 1, {{MADE, HASHER}}},
+    {"hasher_begin_internal", call_hasher_begin_internal, NOTHING, ASKS_NONE, false, 1, {{MADE, HASHER}}},
+    {"hasher_begin_keyed", call_hasher_begin_keyed, NOTHING, ASKS_NONE, false, 2, {{MADE, HASHER}, {GIVEN, KEY}}},
+    {"hasher_count", call_hasher_count, COUNT, ASKS_NONE, false, 1, {{READ, HASHER}}},
+    {"hasher_update", call_hasher_update, STATUS, ASKS_NONE, false, 2, {{CHANGED, HASHER}, {LIST, BYTE}}},
+    {"hasher_finalize", call_hasher_finalize, NOTHING, ASKS_NONE, false, 2, {{READ, HASHER}, {OUT, HASH}}},
+    {"xorb_hash", call_xorb_hash, STATUS, REFUSES, false, 2, {{LIST, CHUNK}, {OUT, HASH}}},
+    {"file_hash", call_file_hash, STATUS, REFUSES, false, 2, {{LIST, CHUNK}, {OUT, HASH}}},
+    {"file_hash_with_salt", call_file_hash_with_salt, STATUS, REFUSES, false, 3, {{LIST, CHUNK}, {GIVEN, KEY},
+        {OUT, HASH}}},
+    {"find_stable_start", call_find_stable_start, STATUS, REFUSES, false, 2, {{LIST, CHUNK}, {OUT, NUMBER}}},
+    {"find_stable_end", call_find_stable_end, STATUS, REFUSES, false, 2, {{LIST, CHUNK}, {OUT, NUMBER}}},
+    {"subtree_from_chunks", call_subtree_from_chunks, STATUS, REFUSES, false, 4, {{GIVEN, TRUTH}, {LIST, CHUNK},
         {GIVEN, TRUTH}, {MADE, SUBTREE}}},
-    {"subtree_to_flat", call_subtree_to_flat, STATUS, false, 5, {{READ, SUBTREE}, {ROOM, LEVEL}, {ROOM, CHUNK},
-        {NEEDED, NUMBER}, {NEEDED, NUMBER}}},
-    {"subtree_free", call_subtree_free, NOTHING, false, 1, {{FREED, SUBTREE}}},
-    {"session_new", call_session_new, STATUS, true, 1, {{MADE, SESSION}}},
-    {"session_new_without_hashes", call_session_new_without_hashes, STATUS, true, 1, {{MADE, SESSION}}},
-    {"session_put", call_session_put, STATUS, true, 4, {{CHANGED, SESSION}, {GIVEN, NUMBER}, {LIST, CHUNK},
-        {OUT, NUMBER}}},
-    {"session_taken", call_session_taken, STATUS, false, 3, {{READ, SESSION}, {GIVEN, NUMBER}, {OUT, TRUTH}}},
-    {"session_root", call_session_root, STATUS, true, 3, {{READ, SESSION}, {GIVEN, NUMBER}, {OUT, HASH}}},
-    {"session_finish", call_session_finish, STATUS, true, 3, {{READ, SESSION}, {GIVEN, NUMBER}, {OUT, HASH}}},
-    {"session_copy", call_session_copy, STATUS, true, 2, {{READ, SESSION}, {MADE, SESSION}}},
-    {"session_num_chunks", call_session_num_chunks, STATUS, false, 2, {{READ, SESSION}, {OUT, NUMBER}}},
-    {"session_total_size", call_session_total_size, STATUS, false, 2, {{READ, SESSION}, {OUT, NUMBER}}},
-    {"session_next_gap", call_session_next_gap, STATUS, false, 5, {{READ, SESSION}, {GIVEN, NUMBER}, {GIVEN, NUMBER},
-        {OUT, NUMBER}, {OUT, NUMBER}}},
-    {"session_knows", call_session_knows, STATUS, false, 3, {{READ, SESSION}, {GIVEN, HASH}, {OUT, TRUTH}}},
-    {"session_knows_each", call_session_knows_each, STATUS, false, 3, {{READ, SESSION}, {LIST, HASH}, {EXACT, BYTE}}},
-    {"session_finish_with_salt", call_session_finish_with_salt, STATUS, true, 4, {{READ, SESSION}, {GIVEN, NUMBER},
-        {GIVEN, KEY}, {OUT, HASH}}},
-    {"session_num_runs", call_session_num_runs, STATUS, false, 2, {{READ, SESSION}, {OUT, NUMBER}}},
-    {"session_run", call_session_run, STATUS, true, 4, {{READ, SESSION}, {GIVEN, NUMBER}, {OUT, NUMBER},
-        {MADE, SUBTREE}}},
-    {"session_run_from", call_session_run_from, STATUS, true, 5, {{READ, SESSION}, {GIVEN, NUMBER}, {OUT, NUMBER},
-        {OUT, NUMBER}, {MADE, SUBTREE}}},
-    {"session_free", call_session_free, NOTHING, false, 1, {{FREED, SESSION}}},
-    {"session_push_run", call_session_push_run, STATUS, true, 4, {{CHANGED, SESSION}, {GIVEN, NUMBER}, {GIVEN, NUMBER},
-        {READ, SUBTREE}}},
-    {"session_keep_hashes", call_session_keep_hashes, STATUS, true, 2, {{CHANGED, SESSION}, {LIST, HASH}}},
-    {"session_keeps_hashes", call_session_keeps_hashes, STATUS, false, 2, {{READ, SESSION}, {OUT, TRUTH}}},
-    {"session_num_known_hashes", call_session_num_known_hashes, STATUS, false, 2, {{READ, SESSION}, {OUT, NUMBER}}},
-    {"session_known_hashes", call_session_known_hashes, STATUS, true, 2, {{READ, SESSION}, {EXACT, HASH}}},
-    {"hash_tree_from_chunks", call_hash_tree_from_chunks, STATUS, true, 2, {{LIST, CHUNK}, {MADE, HASH_TREE}}},
-    {"hash_tree_root", call_hash_tree_root, STATUS, false, 2, {{READ, HASH_TREE}, {OUT, HASH}}},
-    {"hash_tree_file_hash", call_hash_tree_file_hash, STATUS, false, 3, {{READ, HASH_TREE}, {GIVEN, KEY}, {OUT, HASH}}},
-    {"hash_tree_num_chunks", call_hash_tree_num_chunks, STATUS, false, 2, {{READ, HASH_TREE}, {OUT, NUMBER}}},
-    {"hash_tree_total_size", call_hash_tree_total_size, STATUS, false, 2, {{READ, HASH_TREE}, {OUT, NUMBER}}},
-    {"hash_tree_chunks_at", call_hash_tree_chunks_at, STATUS, false, 5, {{READ, HASH_TREE}, {GIVEN, NUMBER},
-        {GIVEN, NUMBER}, {OUT, NUMBER}, {OUT, NUMBER}}},
-    {"hash_tree_bytes_of", call_hash_tree_bytes_of, STATUS, false, 5, {{READ, HASH_TREE}, {GIVEN, NUMBER},
-        {GIVEN, NUMBER}, {OUT, NUMBER}, {OUT, NUMBER}}},
-    {"hash_tree_proof", call_hash_tree_proof, STATUS, true, 7, {{READ, HASH_TREE}, {GIVEN, NUMBER}, {GIVEN, NUMBER},
-        {ROOM, LEVEL}, {ROOM, CHUNK}, {NEEDED, NUMBER}, {NEEDED, NUMBER}}},
-    {"hash_tree_free", call_hash_tree_free, NOTHING, false, 1, {{FREED, HASH_TREE}}},
-    {"range_proof_to_json", call_range_proof_to_json, STATUS, true, 4, {{LIST, LEVEL}, {LIST, CHUNK}, {ROOM, BYTE},
+    {"subtree_clone", call_subtree_clone, STATUS, REFUSES, false, 2, {{READ, SUBTREE}, {MADE, SUBTREE}}},
+    {"subtree_equal", call_subtree_equal, STATUS, ASKS_NONE, false, 3, {{READ, SUBTREE}, {READ, SUBTREE},
+        {OUT, TRUTH}}},
+    {"subtree_marks", call_subtree_marks, STATUS, ASKS_NONE, false, 3, {{READ, SUBTREE}, {OUT, TRUTH}, {OUT, TRUTH}}},
+    {"subtree_total_size", call_subtree_total_size, STATUS, ASKS_NONE, false, 2, {{READ, SUBTREE}, {OUT, NUMBER}}},
+    {"subtree_num_nodes", call_subtree_num_nodes, STATUS, ASKS_NONE, false, 2, {{READ, SUBTREE}, {OUT, NUMBER}}},
+    {"subtree_num_levels", call_subtree_num_levels, STATUS, ASKS_NONE, false, 2, {{READ, SUBTREE}, {OUT, NUMBER}}},
+    {"subtree_final_hash", call_subtree_final_hash, STATUS, ASKS_NONE, false, 2, {{READ, SUBTREE}, {OUT, HASH}}},
+    {"subtree_merge_into", call_subtree_merge_into, STATUS, REFUSES, false, 2, {{CHANGED, SUBTREE}, {READ, SUBTREE}}},
+    {"subtree_merge_into_counted", call_subtree_merge_into_counted, STATUS, REFUSES, false, 3, {{CHANGED, SUBTREE},
+        {READ, SUBTREE}, {OUT, NUMBER}}},
+    {"subtree_merge", call_subtree_merge, STATUS, REFUSES, false, 2, {{LIST, SUBTREE}, {MADE, SUBTREE}}},
+    {"subtree_to_json", call_subtree_to_json, STATUS, REFUSES, false, 3, {{READ, SUBTREE}, {ROOM, BYTE},
         {NEEDED, NUMBER}}},
-    {"range_proof_from_json", call_range_proof_from_json, STATUS, true, 5, {{LIST, BYTE}, {ROOM, LEVEL}, {ROOM, CHUNK},
-        {NEEDED, NUMBER}, {NEEDED, NUMBER}}},
-    {"range_proof_check", call_range_proof_check, STATUS, false, 2, {{LIST, LEVEL}, {LIST, CHUNK}}},
-    {"range_proof_open", call_range_proof_open, STATUS, true, 5, {{LIST, LEVEL}, {LIST, CHUNK}, {GIVEN, HASH},
+    {"subtree_from_json", call_subtree_from_json, STATUS, REFUSES, false, 2, {{LIST, BYTE}, {MADE, SUBTREE}}},
+    {"subtree_from_flat", call_subtree_from_flat, STATUS, REFUSES, false, 5, {{GIVEN, TRUTH}, {LIST, LEVEL},
+        {LIST, CHUNK}, {GIVEN, TRUTH}, {MADE, SUBTREE}}},
+    {"subtree_to_flat", call_subtree_to_flat, STATUS, ASKS_NONE, false, 5, {{READ, SUBTREE}, {ROOM, LEVEL},
+        {ROOM, CHUNK}, {NEEDED, NUMBER}, {NEEDED, NUMBER}}},
+    {"subtree_free", call_subtree_free, NOTHING, ASKS_NONE, false, 1, {{FREED, SUBTREE}}},
+    {"session_new", call_session_new, STATUS, REFUSES, false, 1, {{MADE, SESSION}}},
+    {"session_new_without_hashes", call_session_new_without_hashes, STATUS, REFUSES, false, 1, {{MADE, SESSION}}},
+    {"session_put", call_session_put, STATUS, REFUSES, false, 4, {{CHANGED, SESSION}, {GIVEN, NUMBER}, {LIST, CHUNK},
+        {OUT, NUMBER}}},
+    {"session_taken", call_session_taken, STATUS, ASKS_NONE, false, 3, {{READ, SESSION}, {GIVEN, NUMBER},
+        {OUT, TRUTH}}},
+    {"session_root", call_session_root, STATUS, REFUSES, false, 3, {{READ, SESSION}, {GIVEN, NUMBER}, {OUT, HASH}}},
+    {"session_finish", call_session_finish, STATUS, REFUSES, false, 3, {{READ, SESSION}, {GIVEN, NUMBER}, {OUT, HASH}}},
+    {"session_copy", call_session_copy, STATUS, REFUSES, false, 2, {{READ, SESSION}, {MADE, SESSION}}},
+    {"session_num_chunks", call_session_num_chunks, STATUS, ASKS_NONE, false, 2, {{READ, SESSION}, {OUT, NUMBER}}},
+    {"session_total_size", call_session_total_size, STATUS, ASKS_NONE, false, 2, {{READ, SESSION}, {OUT, NUMBER}}},
+    {"session_next_gap", call_session_next_gap, STATUS, ASKS_NONE, false, 5, {{READ, SESSION}, {GIVEN, NUMBER},
+        {GIVEN, NUMBER}, {OUT, NUMBER}, {OUT, NUMBER}}},
+    {"session_knows", call_session_knows, STATUS, ASKS_NONE, false, 3, {{READ, SESSION}, {GIVEN, HASH}, {OUT, TRUTH}}},
+    {"session_knows_each", call_session_knows_each, STATUS, ASKS_NONE, false, 3, {{READ, SESSION}, {LIST, HASH},
+        {EXACT, BYTE}}},
+    {"session_finish_with_salt", call_session_finish_with_salt, STATUS, REFUSES, false, 4, {{READ, SESSION},
+        {GIVEN, NUMBER}, {GIVEN, KEY}, {OUT, HASH}}},
+    {"session_num_runs", call_session_num_runs, STATUS, ASKS_NONE, false, 2, {{READ, SESSION}, {OUT, NUMBER}}},
+    {"session_run", call_session_run, STATUS, REFUSES, false, 4, {{READ, SESSION}, {GIVEN, NUMBER}, {OUT, NUMBER},
+        {MADE, SUBTREE}}},
+    {"session_run_from", call_session_run_from, STATUS, REFUSES, false, 5, {{READ, SESSION}, {GIVEN, NUMBER},
+        {OUT, NUMBER}, {OUT, NUMBER}, {MADE, SUBTREE}}},
+    {"session_free", call_session_free, NOTHING, ASKS_NONE, false, 1, {{FREED, SESSION}}},
+    {"session_push_run", call_session_push_run, STATUS, REFUSES, false, 4, {{CHANGED, SESSION}, {GIVEN, NUMBER},
+        {GIVEN, NUMBER}, {READ, SUBTREE}}},
+    {"session_keep_hashes", call_session_keep_hashes, STATUS, REFUSES, false, 2, {{CHANGED, SESSION}, {LIST, HASH}}},
+    {"session_keeps_hashes", call_session_keeps_hashes, STATUS, ASKS_NONE, false, 2, {{READ, SESSION}, {OUT, TRUTH}}},
+    {"session_num_known_hashes", call_session_num_known_hashes, STATUS, ASKS_NONE, false, 2, {{READ, SESSION},
+        {OUT, NUMBER}}},
+    {"session_known_hashes", call_session_known_hashes, STATUS, REFUSES, false, 2, {{READ, SESSION}, {EXACT, HASH}}},
+    {"session_to_json", call_session_to_json, STATUS, REFUSES, false, 4, {{READ, SESSION}, {GIVEN, TRUTH}, {ROOM, BYTE},
+        {NEEDED, NUMBER}}},
+    {"session_from_json", call_session_from_json, STATUS, REFUSES, false, 3, {{LIST, BYTE}, {GIVEN, TRUTH},
+        {MADE, SESSION}}},
+    {"hash_tree_from_chunks", call_hash_tree_from_chunks, STATUS, REFUSES, false, 2, {{LIST, CHUNK},
+        {MADE, HASH_TREE}}},
+    {"hash_tree_root", call_hash_tree_root, STATUS, ASKS_NONE, false, 2, {{READ, HASH_TREE}, {OUT, HASH}}},
+    {"hash_tree_file_hash", call_hash_tree_file_hash, STATUS, ASKS_NONE, false, 3, {{READ, HASH_TREE}, {GIVEN, KEY},
+        {OUT, HASH}}},
+    {"hash_tree_num_chunks", call_hash_tree_num_chunks, STATUS, ASKS_NONE, false, 2, {{READ, HASH_TREE},
+        {OUT, NUMBER}}},
+    {"hash_tree_total_size", call_hash_tree_total_size, STATUS, ASKS_NONE, false, 2, {{READ, HASH_TREE},
+        {OUT, NUMBER}}},
+    {"hash_tree_chunks_at", call_hash_tree_chunks_at, STATUS, ASKS_NONE, false, 5, {{READ, HASH_TREE}, {GIVEN, NUMBER},
+        {GIVEN, NUMBER}, {OUT, NUMBER}, {OUT, NUMBER}}},
+    {"hash_tree_bytes_of", call_hash_tree_bytes_of, STATUS, ASKS_NONE, false, 5, {{READ, HASH_TREE}, {GIVEN, NUMBER},
+        {GIVEN, NUMBER}, {OUT, NUMBER}, {OUT, NUMBER}}},
+    {"hash_tree_proof", call_hash_tree_proof, STATUS, REFUSES, false, 7, {{READ, HASH_TREE}, {GIVEN, NUMBER},
+        {GIVEN, NUMBER}, {ROOM, LEVEL}, {ROOM, CHUNK}, {NEEDED, NUMBER}, {NEEDED, NUMBER}}},
+    {"hash_tree_free", call_hash_tree_free, NOTHING, ASKS_NONE, false, 1, {{FREED, HASH_TREE}}},
+    {"range_proof_to_json", call_range_proof_to_json, STATUS, REFUSES, false, 4, {{LIST, LEVEL}, {LIST, CHUNK},
+        {ROOM, BYTE}, {NEEDED, NUMBER}}},
+    {"range_proof_from_json", call_range_proof_from_json, STATUS, REFUSES, false, 5, {{LIST, BYTE}, {ROOM, LEVEL},
+        {ROOM, CHUNK}, {NEEDED, NUMBER}, {NEEDED, NUMBER}}},
+    {"range_proof_to_bytes", call_range_proof_to_bytes, STATUS, REFUSES, false, 4, {{LIST, LEVEL}, {LIST, CHUNK},
+        {ROOM, BYTE}, {NEEDED, NUMBER}}},
+    {"range_proof_from_bytes", call_range_proof_from_bytes, STATUS, REFUSES, false, 5, {{LIST, BYTE}, {ROOM, LEVEL},
+        {ROOM, CHUNK}, {NEEDED, NUMBER}, {NEEDED, NUMBER}}},
+    {"range_proof_check", call_range_proof_check, STATUS, ASKS_NONE, false, 2, {{LIST, LEVEL}, {LIST, CHUNK}}},
+    {"range_proof_open", call_range_proof_open, STATUS, REFUSES, false, 5, {{LIST, LEVEL}, {LIST, CHUNK}, {GIVEN, HASH},
         {GIVEN, KEY}, {MADE, OPENED_RANGE}}},
-    {"range_proof_open_root", call_range_proof_open_root, STATUS, true, 4, {{LIST, LEVEL}, {LIST, CHUNK}, {GIVEN, HASH},
-        {MADE, OPENED_RANGE}}},
-    {"opened_range_file_size", call_opened_range_file_size, STATUS, false, 2, {{READ, OPENED_RANGE}, {OUT, NUMBER}}},
-    {"opened_range_num_chunks", call_opened_range_num_chunks, STATUS, false, 2, {{READ, OPENED_RANGE}, {OUT, NUMBER}}},
-    {"opened_range_bytes_of", call_opened_range_bytes_of, STATUS, false, 4, {{READ, OPENED_RANGE}, {GIVEN, NUMBER},
-        {OUT, NUMBER}, {OUT, NUMBER}}},
-    {"opened_range_check", call_opened_range_check, STATUS, false, 4, {{READ, OPENED_RANGE}, {GIVEN, NUMBER},
+    {"range_proof_open_root", call_range_proof_open_root, STATUS, REFUSES, false, 4, {{LIST, LEVEL}, {LIST, CHUNK},
+        {GIVEN, HASH}, {MADE, OPENED_RANGE}}},
+    {"opened_range_file_size", call_opened_range_file_size, STATUS, ASKS_NONE, false, 2, {{READ, OPENED_RANGE},
+        {OUT, NUMBER}}},
+    {"opened_range_num_chunks", call_opened_range_num_chunks, STATUS, ASKS_NONE, false, 2, {{READ, OPENED_RANGE},
+        {OUT, NUMBER}}},
+    {"opened_range_bytes_of", call_opened_range_bytes_of, STATUS, ASKS_NONE, false, 4, {{READ, OPENED_RANGE},
+        {GIVEN, NUMBER}, {OUT, NUMBER}, {OUT, NUMBER}}},
+    {"opened_range_check", call_opened_range_check, STATUS, ASKS_NONE, false, 4, {{READ, OPENED_RANGE}, {GIVEN, NUMBER},
         {LIST, BYTE}, {OUT, NUMBER}}},
-    {"opened_range_read", call_opened_range_read, STATUS, false, 5, {{READ, OPENED_RANGE}, {GIVEN, NUMBER},
+    {"opened_range_read", call_opened_range_read, STATUS, ASKS_NONE, false, 5, {{READ, OPENED_RANGE}, {GIVEN, NUMBER},
         {GIVEN, NUMBER}, {LIST, BYTE}, {OUT, NUMBER}}},
-    {"opened_range_free", call_opened_range_free, NOTHING, false, 1, {{FREED, OPENED_RANGE}}},
+    {"opened_range_free", call_opened_range_free, NOTHING, ASKS_NONE, false, 1, {{FREED, OPENED_RANGE}}},
+    {"reader_new", call_reader_new, STATUS, REFUSES, false, 4, {{GIVEN, HASH}, {GIVEN, KEY}, {GIVEN, NUMBER},
+        {MADE, READER}}},
+    {"reader_read", call_reader_read, STATUS, SPARES, false, 6, {{CHANGED, READER}, {GIVEN, NUMBER}, {FRONT, BYTE},
+        {GIVEN, NUMBER}, {OUT, NUMBER}, {OUT, NUMBER}}},
+    {"reader_needs", call_reader_needs, STATUS, ASKS_NONE, false, 6, {{READ, READER}, {GIVEN, NUMBER}, {GIVEN, NUMBER},
+        {GIVEN, NUMBER}, {OUT, NUMBER}, {OUT, NUMBER}}},
+    {"reader_size", call_reader_size, STATUS, ASKS_NONE, false, 2, {{READ, READER}, {OUT, NUMBER}}},
+    {"reader_counted", call_reader_counted, STATUS, ASKS_NONE, false, 2, {{READ, READER}, {OUT, NUMBER}}},
+    {"reader_keep_at_most", call_reader_keep_at_most, STATUS, ASKS_NONE, false, 2, {{CHANGED, READER},
+        {GIVEN, NUMBER}}},
+    {"reader_take", call_reader_take, STATUS, SPARES, false, 2, {{CHANGED, READER}, {EMPTIED, PART}}},
+    {"part_open", call_part_open, STATUS, REFUSES, false, 10, {{LIST, LEVEL}, {LIST, CHUNK}, {GIVEN, HASH},
+        {GIVEN, KEY}, {GIVEN, NUMBER}, {GIVEN, NUMBER}, {GIVEN, NUMBER}, {OUT, NUMBER}, {OUT, NUMBER}, {MADE, PART}}},
+    {"part_open_json", call_part_open_json, STATUS, REFUSES, false, 9, {{LIST, BYTE}, {GIVEN, HASH}, {GIVEN, KEY},
+        {GIVEN, NUMBER}, {GIVEN, NUMBER}, {GIVEN, NUMBER}, {OUT, NUMBER}, {OUT, NUMBER}, {MADE, PART}}},
+    {"part_check", call_part_check, STATUS, SPARES, true, 5, {{CHANGED, PART}, {LIST, BYTE}, {GIVEN, TRUTH},
+        {OUT, NUMBER}, {OUT, NUMBER}}},
+    {"part_file_size", call_part_file_size, STATUS, ASKS_NONE, false, 2, {{READ, PART}, {OUT, NUMBER}}},
+    {"part_checked", call_part_checked, STATUS, ASKS_NONE, false, 3, {{READ, PART}, {OUT, NUMBER}, {OUT, NUMBER}}},
+    {"reader_free", call_reader_free, NOTHING, ASKS_NONE, false, 1, {{FREED, READER}}},
+    {"part_free", call_part_free, NOTHING, ASKS_NONE, false, 1, {{FREED, PART}}},
 };
 const size_t call_count = LENGTH(calls);
 
@@ -581,8 +726,11 @@ const struct named_status statuses[] = {
     {"ROOM", YUREWHA_ROOM},
     {"EMPTY_HANDLE", YUREWHA_EMPTY_HANDLE},
     {"MISMATCH", YUREWHA_MISMATCH},
+    {"ELSEWHERE", YUREWHA_ELSEWHERE},
+    {"TOO_FAR", YUREWHA_TOO_FAR},
     {"RULE", YUREWHA_RULE},
     {"PROOF_RULE", YUREWHA_PROOF_RULE},
+    {"SESSION_RULE", YUREWHA_SESSION_RULE},
     {"SESSION_OVERLAP", YUREWHA_SESSION_OVERLAP},
     {"SESSION_POSITIONS", YUREWHA_SESSION_POSITIONS},
     {"SESSION_GAP", YUREWHA_SESSION_GAP},

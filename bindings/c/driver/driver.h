@@ -20,19 +20,28 @@ enum role {
     CHANGED, /* one that the call changes */
     MADE,    /* one that it makes */
     FREED,   /* a handle that it frees */
+    EMPTIED, /* one that it frees if it is done */
     ROOM,    /* an array that it fills; if that is too short, it says how long it has to be */
     EXACT,   /* an array that it fills, and whose length has to fit */
+    FRONT,   /* an array of any length, of which it fills the front */
     NEEDED,  /* how long a room has to be */
     OUT      /* a value that it writes */
 };
 
 /* Of what type it is, or its elements are. From SUBTREE on, these are handles. */
-enum type { BYTE, TRUTH, NUMBER, HASH, KEY, CHUNK, LEVEL, HASHER, SUBTREE, SESSION, HASH_TREE, OPENED_RANGE };
+enum type { BYTE, TRUTH, NUMBER, HASH, KEY, CHUNK, LEVEL, HASHER, SUBTREE, SESSION, HASH_TREE, OPENED_RANGE, PART, READER };
 
 /* What a call returns. */
 enum answer { NOTHING, STATUS, SIGNED, COUNT };
 
-enum { MOST_ARGUMENTS = 8 };
+/* What a call does if a request for memory is refused. */
+enum memory {
+    ASKS_NONE, /* it makes no request */
+    SPARES,    /* it does without */
+    REFUSES    /* it returns MEMORY */
+};
+
+enum { MOST_ARGUMENTS = 10 };
 
 /* An argument: a number, or `count` elements at an address. */
 struct argument {
@@ -45,7 +54,8 @@ struct call {
     const char *name; /* without `yurewha_` */
     uint64_t (*make)(const struct argument *a);
     enum answer answer;
-    bool takes_memory; /* whether it may be out of memory */
+    enum memory memory;
+    bool changes_anyway; /* whether it changes its handle whatever it returns */
     size_t count;
     struct {
         enum role role;

@@ -85,6 +85,32 @@ static void tell_opened_range(yurewha_hasher *message, yurewha_opened_range *ran
     }
 }
 
+static void tell_part(yurewha_hasher *message, yurewha_part *part)
+{
+    size_t chunks = 0;
+    uint64_t places[2] = {0, 0};
+    need(yurewha_part_file_size(part, &places[0]), "file_size");
+    need(yurewha_part_checked(part, &chunks, &places[1]), "checked");
+    add(message, places, sizeof places);
+    add(message, &chunks, sizeof chunks);
+}
+
+/* What tells most of a reader: which of the first bytes it keeps. A read would change the order in which its chunks were used. */
+static void tell_reader(yurewha_hasher *message, yurewha_reader *reader)
+{
+    uint64_t size = 0, counted = 0;
+    const yurewha_status status = yurewha_reader_size(reader, &size);
+    need(yurewha_reader_counted(reader, &counted), "counted");
+    add(message, &status, sizeof status);
+    add(message, &size, sizeof size);
+    add(message, &counted, sizeof counted);
+    for (uint64_t place = 0; place < 64; place++) {
+        uint64_t first = 0, end = 0;
+        const yurewha_status kept = yurewha_reader_needs(reader, place, place + 1, 1, &first, &end);
+        add(message, &kept, sizeof kept);
+    }
+}
+
 void tell(yurewha_hasher *message, enum type type, void *object)
 {
     const bool is_empty = type >= SUBTREE && ((struct handle *)object)->at == NULL;
@@ -99,6 +125,10 @@ void tell(yurewha_hasher *message, enum type type, void *object)
         tell_session(message, (yurewha_session *)object);
     else if (type == HASH_TREE)
         tell_hash_tree(message, (yurewha_hash_tree *)object);
-    else
+    else if (type == OPENED_RANGE)
         tell_opened_range(message, (yurewha_opened_range *)object);
+    else if (type == PART)
+        tell_part(message, (yurewha_part *)object);
+    else
+        tell_reader(message, (yurewha_reader *)object);
 }
