@@ -59,11 +59,11 @@ def sources(processor: str, folder: Path) -> list[str]:
     """The files of a folder that make the library for a processor, which are listed in targets.txt."""
     lines = [line.split() for line in (folder / "targets.txt").read_text(encoding="utf-8").splitlines()]
     levels = [f"{'macos-' if IS_MACOS else ''}{words[0]}" for words in lines if words[0] != "#" and words[1] == processor]
-    if not levels or IS_MACOS and processor != "x86_64":
+    if not levels:
         raise SystemExit(
-            f"yurewha: there is no library for {processor}: it is compiled for Linux on x86_64 and aarch64, and for macOS on x86_64; for "
-            "Windows on x86_64, YUREWHA_LIBRARY names the DLL that `make` builds; elsewhere a Linux container runs it, and the JavaScript "
-            "package runs as it is")
+            f"yurewha: there is no library for {processor}: it is compiled for Linux and macOS on x86_64 and aarch64; for Windows on "
+            "x86_64, YUREWHA_LIBRARY names the DLL that `make` builds; elsewhere a Linux container runs it, and the JavaScript package "
+            "runs as it is")
     return [str(folder / name) for name in ("processor_level.c", "heap.c", *(f"{level}.s" for level in levels))]
 
 
@@ -95,15 +95,13 @@ class BuildLibrary(build_ext):
             to.parent.mkdir(parents=True, exist_ok=True)
             shutil.copy(CHOSEN, to)
             return
-        # Python on Android may say that it is on Linux. There register x18, which aarch64.s uses, is the system's.
-        of_system = "android-" if hasattr(sys, "getandroidapilevel") else ""
-        system, _, processor = f"{of_system}{self.plat_name}".partition("-")
+        system, _, processor = self.plat_name.partition("-")
         folder = Path(self.build_temp, PACKED)
         copy_files(folder)
         if IS_MACOS:
             self.build_for_macos(folder, Path(self.get_ext_fullpath(extension.name)))
             return
-        extension.sources = sources(processor if system == "linux" else f"{of_system}{self.plat_name}", folder)
+        extension.sources = sources(processor if system == "linux" else self.plat_name, folder)
         extension.include_dirs = [str(folder)]
         if self.takes(PROTECTIONS[processor]):
             extension.extra_compile_args.append(PROTECTIONS[processor])

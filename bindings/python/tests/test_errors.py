@@ -494,17 +494,6 @@ TOLD = [
     ("item 1 must be the number of one of 2 items, got 2", lambda: y.Chunks([ONE, ONE])[[0, 2]]),
     ("there must be a bool for each of 2 items, got 1", lambda: y.Chunks([ONE, ONE])[[True]]),
     ("there must be at most 1 captions, one for each subtree, got 2", lambda: y.svg_of([open_tree()], ["a", "b"])),
-    ("`first` of run 0 must be a whole number from 0 to 2^64 - 1, got -1.5e3",
-     lambda: y.Session.from_json('{"runs":[{"first":-1.5e3}],"known_hashes":[]}')),
-    ("`first` of run 0 must be a whole number from 0 to 2^64 - 1, got -1",
-     lambda: y.Session.from_json('{"runs":[{"first":-1}],"known_hashes":[]}')),
-    ("`runs` must be an array, got an object of 'a'", lambda: y.Session.from_json('{"runs":{"a":1},"known_hashes":[]}')),
-    ("each member of an object must occur once, got 'a' twice",
-     lambda: y.Session.from_json('{"runs":[],"known_hashes":[],"a":1,"a":2}')),
-    ("known hash 0 must be an array of four whole numbers from 0 to 2^64 - 1, got 7",
-     lambda: y.Session.from_json('{"runs":[],"known_hashes":[7]}')),
-    ("known hash 0 must be an array of four whole numbers from 0 to 2^64 - 1, got true in it",
-     lambda: y.Session.from_json('{"runs":[],"known_hashes":[[1,2,3,true]]}')),
 ]
 
 

@@ -124,7 +124,7 @@ def test_a_handler_uses_each_property_of_a_file_in_its_own_thread(refusing, name
     """It may run wherever the main thread has a lock of the file."""
     file = y.VerifiedFile(SOURCE.tree.file_hash(), SOURCE.fetch, SOURCE.prove, name="data")
     assert file.size == 4_000_000
-    with file._guarded._locked(), file._keeping._locked():
+    with file._guarded._locked(), file._reader._locked():
         assert in_a_thread(lambda: PROPERTIES[name](file))
 
 

@@ -5,16 +5,19 @@ import contextlib
 import io
 import os
 import random
+import signal
 import threading
 import time
 
 import pytest
-from test_verified_files import OTHER, Ended, Source, at_each_line, changed, drawn
+from test_verified_files import OTHER, Ended, Source, at_each_line, changed, drawn, is_right
 
 import yurewha as y
-from yurewha._kept_parts import KeptParts
+from yurewha import _library
 
 MIB = 1 << 20
+#: What a chunk counts beside its bytes.
+BESIDE = 128
 
 
 def plainly(source, **options):
@@ -154,15 +157,15 @@ def test_tasks_ask_at_once():
 
 
 def test_the_lock_is_held_while_kept_parts_are_used(monkeypatch):
-    held, file = [], drawn(31, 20).open()
-    for name in ("at", "keep"):
-        def spied(kept, *given, call=getattr(KeptParts, name), name=name):
-            held.append((name, file._keeping._lock._is_owned()))
-            return call(kept, *given)
+    held, file, names = [], drawn(31, 20).open(), {f"yurewha_reader_{name}" for name in ("read", "take", "size")}
+    for name in names:
+        def spied(*given, call=getattr(_library.short, name), name=name):
+            held.append((name, file._reader._lock._is_owned()))
+            return call(*given)
 
-        monkeypatch.setattr(KeptParts, name, spied)
-    assert file.read_at(3, 5) == file.read_at(3, 5) and {name for name, _ in held} == {"at", "keep"} and all(lock for _, lock in held)
-    assert not file._keeping._lock._is_owned()
+        monkeypatch.setattr(_library.short, name, spied)
+    assert file.read_at(3, 5) == file.read_at(3, 5) and file.size and {name for name, _ in held} == names and all(lock for _, lock in held)
+    assert not file._reader._lock._is_owned()
 
 
 @pytest.mark.parametrize("options", [{}, {"cache_size": 3000}], ids=str)
@@ -180,7 +183,7 @@ def test_threads_read_one_file_by_parts(options):
         return "right"
 
     assert started(*(lambda seed=seed: work(seed) for seed in range(6))) == 6 * ["right"]
-    assert file._kept.total == sum(map(len, file._kept._data.values())) <= file._cache_size
+    assert 0 < file._reader.counted() <= file._cache_size
 
 
 # ---- What was checked before a failure
@@ -265,10 +268,10 @@ def test_what_is_rescued_is_forgotten_once_it_was_read(monkeypatch):
     file, read_at = file_of(plainly, source, server, cache_size=0)
     with pytest.raises(ConnectionError):
         read_at(0, 10_000)
-    assert file._rescued.total == 3000
+    assert file._rescued.counted() == 3000 + 60 * BESIDE
     server[0] = Dying(source, 1 << 60)
-    assert read_at(5000, 6000) == source.data[5000:6000] and file._rescued.total == 3000
-    assert read_at(0, 10_000) == source.data and file._rescued is None and file._kept.total == 0
+    assert read_at(5000, 6000) == source.data[5000:6000] and file._rescued.counted() == 3000 + 60 * BESIDE
+    assert read_at(0, 10_000) == source.data and file._rescued is None and file._reader.counted() == 0
 
 
 def test_what_is_rescued_is_bounded(monkeypatch):
@@ -282,7 +285,9 @@ def test_what_is_rescued_is_bounded(monkeypatch):
         server[0] = Dying(source, 2000)
         with pytest.raises(ConnectionError):
             read_at(start, start + 5000)
-        assert 2000 <= file._rescued.total <= 2000 + 2500
+        had = 2000 + 40 * BESIDE
+        assert had <= file._rescued.counted() <= had + 2500
+        assert file._rescued.read(start, 2000)[0] == source.data[start:start + 2000]
 
 
 def test_reads_by_position_rescue_too(monkeypatch):
@@ -313,7 +318,7 @@ def test_answers_that_come_late_and_exchanged():
 
     file = y.VerifiedFile(source.tree.file_hash(), fetch, source.prove)
     results = started(lambda: file.read_at(0, 100), lambda: file.read_at(200, 300))
-    assert [type(result) for result in results] == 2 * [y.ProofMismatch] and file._kept.total == 0 and file._rescued is None
+    assert [type(result) for result in results] == 2 * [y.ProofMismatch] and file._reader.counted() == 0 and file._rescued is None
 
 
 def test_a_late_answer_is_right_where_it_belongs():
@@ -352,7 +357,7 @@ def test_answers_to_tasks_that_come_late_and_exchanged():
 
         file = y.AsyncVerifiedFile(source.tree.file_hash(), fetch, source.prove)
         results = await asyncio.gather(file.read_at(0, 100), file.read_at(200, 300), return_exceptions=True)
-        assert [type(result) for result in results] == 2 * [y.ProofMismatch] and file._kept.total == 0 and file._rescued is None
+        assert [type(result) for result in results] == 2 * [y.ProofMismatch] and file._reader.counted() == 0 and file._rescued is None
         turned[0] = False
         return await asyncio.gather(file.read_at(0, 100), file.read_at(200, 300))
 
@@ -423,7 +428,7 @@ def test_dishonest_servers(reader, name):
     for _ in range(3):
         with pytest.raises(y.ProofMismatch):
             read_at(2000, 2300)
-    assert not (file._kept and file._kept.total)
+    assert is_right(file, source)
     assert name not in ("the whole file for a part", "a parent for a chunk") or source.fetched == []
 
 
@@ -471,10 +476,11 @@ def test_4_mib_are_kept_unless_another_number_is_given(reader):
     for place in range(0, 12 * MIB, MIB):
         assert read_at(place, place + MIB) == GREAT.data[place:place + MIB]
     GREAT.fetched.clear()
-    for place in range(8 * MIB, 12 * MIB, MIB):
-        assert read_at(place, place + MIB) == GREAT.data[place:place + MIB]
+    first = 8 * MIB + (1 << 16)  # 63 chunks, since each counts a little more than its bytes
+    for place in (first, *range(9 * MIB, 12 * MIB, MIB)):
+        assert read_at(place, 12 * MIB) == GREAT.data[place:]
     assert GREAT.fetched == []
-    assert read_at(8 * MIB - 1, 8 * MIB) == GREAT.data[8 * MIB - 1:8 * MIB] and len(GREAT.fetched) == 1
+    assert read_at(first - 1, first) == GREAT.data[first - 1:first] and len(GREAT.fetched) == 1
 
 
 def in_steps(file, length):
@@ -638,11 +644,27 @@ def test_where_no_thread_can_be_started(monkeypatch):
     assert in_steps(file, 1 << 20) == GREAT.data
 
 
+@contextlib.contextmanager
+def at_most(seconds):
+    """Ends what takes longer, as where a thread waits for ever."""
+    def ended(number, frame):
+        raise TimeoutError("it takes too long")
+
+    before = signal.signal(signal.SIGALRM, ended)
+    signal.alarm(seconds)
+    try:
+        yield
+    finally:
+        signal.alarm(0)
+        signal.signal(signal.SIGALRM, before)
+
+
 @pytest.mark.parametrize("act", ["raises", "reads"])
-def test_a_handler_between_any_two_lines_of_reading_ahead(monkeypatch, act):
+@pytest.mark.parametrize("cache_size", [0, 2 * (50 + BESIDE)])
+def test_a_handler_between_any_two_lines_of_reading_ahead(monkeypatch, act, cache_size):
     monkeypatch.setattr("yurewha._read_ahead._LEAST", 100)
     source = Source(random.Random(42).randbytes(1000), range(0, 1001, 50))
-    file = source.open(read_ahead=300, cache_size=100)
+    file = source.open(read_ahead=300, cache_size=cache_size)
 
     def interrupt():
         if act == "raises":
@@ -660,8 +682,9 @@ def test_a_handler_between_any_two_lines_of_reading_ahead(monkeypatch, act):
                 assert file.read(40) == source.data[place:place + 40]
 
     # Before a line that leaves a `with`, a trace raises where no signal handler can, and the lock that the threads need stays taken.
-    modules = ("_verified_file.py", "_read_ahead.py") + (() if act == "raises" else ("_checked_parts.py", "_kept_parts.py"))
-    assert at_each_line(modules, work, interrupt) > 80
+    modules = ("_verified_file.py", "_read_ahead.py") + (() if act == "raises" else ("_checked_parts.py", "_reader.py"))
+    with at_most(100):
+        assert at_each_line(modules, work, interrupt) > 80
     file.seek(0)
     assert in_steps(file, 40) == source.data
 

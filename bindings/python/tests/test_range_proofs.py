@@ -57,16 +57,6 @@ EXAMPLES = [
 
 
 @pytest.mark.parametrize("chunks, first, end, levels, offset, size", EXAMPLES)
-def test_all_places_of_a_range_at_once(chunks, first, end, levels, offset, size):
-    tree = y.HashTree(chunks)
-    opened = tree.proof(first, end).open_root(tree.root)
-    assert opened._places() == (opened.begins(0), opened.ends(end - first - 1), size)
-    opened.__del__()
-    with pytest.raises(y.EmptyHandle):
-        opened._places()
-
-
-@pytest.mark.parametrize("chunks, first, end, levels, offset, size", EXAMPLES)
 def test_examples(chunks, first, end, levels, offset, size):
     tree = y.HashTree(chunks)
     proof = tree.proof(first, end)
@@ -180,10 +170,11 @@ def test_longer_proofs_than_allowed_are_not_read(count):
 def test_a_proof_has_at_most_16_mib_unless_more_is_allowed(monkeypatch):
     """Of a longer one nothing is read."""
     calls = []
-    for name in ("yurewha_range_proof_from_json", "yurewha_range_proof_check"):
+    for name in ("yurewha_range_proof_from_json", "yurewha_range_proof_from_bytes", "yurewha_range_proof_check"):
         for library in (_library.short, _library.long):
             monkeypatch.setattr(library, name, lambda *given: calls.append(name) or 0)
-    for read, given in ((y.RangeProof.from_json, bytes(MIB16)), (y.RangeProof.from_bytes, bytes(MIB16 - 8))):
+    for read, given in ((y.RangeProof.from_json, bytes(MIB16)), (y.RangeProof.from_bytes, bytes(MIB16 - 8)),
+                        (y.RangeProof.from_bytes, bytes(MIB16 - 1))):
         calls.clear()
         read(given)
         assert len(calls) == 1
@@ -391,33 +382,41 @@ FLAT = [
 ]
 
 
+def longer(levels, nodes):
+    """The bytes of flat lists in the longer form: each number has eight bytes."""
+    return struct.pack("<Q", len(levels)) + b"".join(struct.pack("<QQ", *level) for level in levels) + y.Chunks(nodes).packed
+
+
 @pytest.mark.parametrize("rule, levels, nodes", FLAT)
 def test_rules_of_flat_lists(rule, levels, nodes):
-    packed = struct.pack("<Q", len(levels)) + b"".join(struct.pack("<QQ", *level) for level in levels) + y.Chunks(nodes).packed
-    for call in (lambda: y.RangeProof.from_flat(levels, nodes), lambda: y.RangeProof.from_bytes(packed)):
+    for call in (lambda: y.RangeProof.from_flat(levels, nodes), lambda: y.RangeProof.from_bytes(longer(levels, nodes))):
         with pytest.raises(y.InvalidProof) as raised:
             call()
         assert raised.value.rule == rule
 
 
-def test_the_bytes_of_javascript_are_refused():
-    """They have one byte for each number before the nodes, so their length is odd."""
+def test_the_forms_of_bytes():
+    """The shorter one has one byte for each number before the nodes, so its length is odd. The longer one is read, too."""
     for proof in (TREE.proof(0, 1), TREE.proof(1, 2), y.HashTree([ONE]).proof(0, 1), y.RangeProof.from_flat(64 * [(0, 0)], [ONE])):
         levels, nodes = proof.to_flat()
         data = bytes([len(levels), *(count for level in levels for count in level)]) + nodes.packed
-        with pytest.raises(y.InvalidProof):
-            y.RangeProof.from_bytes(data)
+        assert proof.to_bytes() == bytes(proof) == data and len(data) == proof._length() and len(data) % 2
+        assert y.RangeProof.from_bytes(data) == y.RangeProof.from_bytes(longer(levels, nodes)) == proof
 
 
 def test_bytes_of_another_form():
-    good = TREE.proof(1, 2).to_bytes()
-    two_levels, packed = struct.pack("<Q", 2), struct.pack("<Q", 65) + 16 * 65 * b"\1"
-    for rule, data in ((1, b""), (1, good[:7]), (3, struct.pack("<Q", MAX)), (3, two_levels + bytes(31)), (3, packed[:-1]), (4, good[:-1]),
-                       (4, good + b"\0"), (4, two_levels + bytes(33)), (4, packed + bytes(39))):
+    good, eight = TREE.proof(1, 2).to_bytes(), struct.Struct("<Q").pack
+    assert good[:3] == b"\1\1\1"
+    broken = [(1, b""), (3, b"\1"), (3, b"\2" + bytes(3)), (3, b"\xff" + bytes(509)), (3, eight(MAX)), (4, good[:-1]), (4, good + b"\0"),
+              (4, bytes(2)), (4, eight(1) + bytes(14)), (4, eight(2) + bytes(33)), (4, eight(2) + bytes(34)), (5, b"\0"), (5, good[:-80]),
+              (6, b"\x41" + bytes(130) + bytes(40)), (7, b"\1\x09\0" + bytes(400))]
+    # These have the longer form.
+    broken += [(5, eight(0)), (5, eight(2) + bytes(32)), (6, eight(65) + bytes(16 * 65 + 40)), (7, longer([(9, 0)], 10 * [ONE]))]
+    for rule, data in broken:
         with pytest.raises(y.InvalidProof) as raised:
             y.RangeProof.from_bytes(data)
-        assert raised.value.rule == rule
-    for data in (good + bytes(40), good[:-40], bytes(8), bytes(48)):
+        assert raised.value.rule == rule, data
+    for data in (good + bytes(40), good[:-40]):
         try:
             assert y.RangeProof.from_bytes(data) != TREE.proof(1, 2)
         except y.InvalidProof as error:

@@ -1,5 +1,6 @@
 """What is saved: whole or not at all, and refused if a byte of it is missing or wrong. Sessions that keep no hashes. Indexes of hashes."""
 
+import base64
 import copy
 import ctypes
 import json
@@ -300,6 +301,66 @@ def test_saved_runs_are_short(tmp_path):
     sizes = [(tmp_path / name).stat().st_size for name in ("whole", "runs")]
     assert sizes[0] - sizes[1] == 32 * 50_000 and sizes[1] == len(one.to_json(hashes=False)) + 8 + 1 + 32 + len(b"yurewha session 1\n")
     assert len(one.to_json(hashes=False)) < 100_000 < len(one.to_json()) and y.Session.load(tmp_path / "runs").runs() == one.runs()
+
+
+# ---- What version 1.0 saved
+
+def seeded_session(**options):
+    made = y.Session(**options)
+    made.put(7, [seeded(3)])
+    return made
+
+
+def seeded_proof():
+    return y.HashTree([seeded(k) for k in (1, 2, 3)]).proof(1, 2)
+
+
+def read_file(data, folder):
+    (folder / "saved").write_bytes(data)
+    return y.Session.load(folder / "saved")
+
+
+#: Pickles, saved files and bytes as the package wrote them before the library did, in base 85.
+WRITTEN = {
+    "pickled session": (session, pickle.loads, (
+        'fC6J*Ut)D>Y;<XEUtbDmWprV5baD!D0AqP|a%FdDVG2`ab8~5LZVFfl0001Aa%FRLZ*pa1hEhucO9W^DV|jIQWp`*{3R87rbaG{73RnpM003rkZ*5;@Y+-bU'
+        'QgHz&iAw@Y0EUHQUt@1%Wn*&+Wo~0{WMv9*0$6qc006?9!-4~Ef5VW&g~N}+jl-Zn!j>{YLc+fw!?nVyS66+)qZz}NR>O@2!k-Zc!oOqy00000001h(yu*aT'
+        'wZepT!=}T7!-&JOK*FBGgMPw;!imF;!j!_S!iOmf!n?wzata~Cox{7sr7=sxhyVZp00000SOx$90Bm7&X>Kub1BOzGbW(>)2TKTO0Vs(}0ZRaeg=hj;H~;_u'
+        'DQOwPxx$gdt1As8X)tcWpTn%fox-KUpTniYqi90HqQkVqoj1a-CBv0CM@GY#ECB!j00000Xaj~)iF8tjhGThka%FdDVG2lLb7*CA3TOgYl>h($DQOwPxx$gd'
+        't1As8X)tcWpTn%fox-KUpTniYqi90HqQkVqoj1a-CBv0CM@GY#!kfc_18;xBki&(;kHU?^pg+QvGC@MZzaYc4!m3wSeZr#|!<JUVjRnG=5eUM+D#N_Pgu=DL'
+        'gmuHF!-K<!!?Hlap2LHF!h^zz!;Qj}!mPrFDGS28!lrTxA;X=+yThe1OK1azQiW26QZ4')),
+    "pickled session without hashes": (lambda: seeded_session(keep_hashes=False), pickle.loads, (
+        'fC6J*Ut)D>Y;<XEUtbDmWprV5baD!D0AqP|a%FdDVG2`ab8~5LZVFfl0001Aa%FRLZ*pa1hEhuhO9*HHV|jIQWp`*{3R87rbaG{73RnpM003rkZ*5;@Y+-bU'
+        'QYeW_0ZRaeg=1f1Z)9a-a|&f{V{c?-3RpM*001dz8N#{3k;AJi4J2tWZo;3#tizqcrNW=XrNg6WLc*fMw8Nb@!mlO6l{iO6!<Z}q00000003A90001NVRUJ3'
+        'F@{o!bW(?fV|jIQWp`*{3P@pdXk~K>V_#olb!lvLX>MO%3SxP5WpfHCQiW29hf*#')),
+    "session": (session, read_file, (
+        'd3ADScW7ZCb7gaLX>V>IF$(kNPz@!Oq$BFDX-4nGq5M!yOre(xQK!!OluPk_KMVoY0RR910001cB64+Zb0Ruhdm?6Oa&vSdIx;LGWo~35Iy5XIV`z15YjYwx'
+        'dm>?UUuAA&B06SaY;$ESB4Ko2b97;HbRs%tVQh0{EFx@Wc4cgHB05`JGAuA%T`VGQZ)9b2B05`pB4}ZAXd*fyV`gJDWH2{oHfAt0V=_5nVrDclG%+(WIW{w9'
+        'WiU8oF*#u~H)J(8H8){lW;HS}VrDQnF)=x2Fg0UjH8x~6A}k_vX?kTMIx#RXeJpz-Xkl|`B03^tGi5e6H8?b4HDfepV=`elIXE*nWn(irWi&8mGGjPlHezBh'
+        'Vlp{6H(_HrG-G5mVly#iHD+RDWHK=@VK*`&EFyDhdSxOyGB7ZGU44Bldm?6Oa&vSdIyWpLWo~35IyfvMV`z15YjYwxdm>?UUuAA&B06SaY;$ESB4Ko2b97;H'
+        'bRs%tVQh0{EFx@Wc4cgHB05`JF)T1$T`VGQZ)9b2B05`pB4}ZAXd*fyFk~`fWnwuoVmUE6HaRjmVKroAWn(#JHf1v~HaRjhWMpPEVKOu_HaKN7Wi>fwWH>Z7'
+        'G&eIiWHmB1VP-QoA}k_vX?kTMIx{dZeO-NhT`VGNZf|#PUua=-Xk~LEI$K?RDQOwGk?SiBBxx{ipX}YGpXK9dLZbBDH?JktI7dd<o5BNcf6&Fxjo?3)GC@MW'
+        'AoZ$OSAC-y)>h30pAiVZD*VK?gmvb_$nrp*!+wK_&6KQ%DGR%%ata~c`{gl9')),
+    "session without hashes": (lambda: seeded_session(keep_hashes=False), read_file, (
+        'd3ADScW7ZCb7gaLX>V>IF$zFq2Dpsvq<#ko&Px&yIesz=Z(WKg{3T&<xF%!@+{ysW000000001cB64+Zb0Ruhdm?6Oa&vSdIyWpLWo~35IyfvMV`z15YjYwx'
+        'dm>?UUuAA&B06SaY;$ESB4Ko2b97;HbRs%tVQh0{EFx@Wc4cgHB05`JF)T1$T`VGQZ)9b2B05`pB4}ZAXd*fyFk~`fWnwuoVmUE6HaRjmVKroAWn(#JHf1v~'
+        'HaRjhWMpPEVKOu_HaKN7Wi>fwWH>Z7G&eIiWHmB1VP-QoA}k_vX?kTMIx{dZeO-NhT`VGNZf|#PUua=-Xk~LEI$K?R')),
+    "pickled range proof": (seeded_proof, pickle.loads, (
+        'fC6J*Ut)D>Y;<XEUtbDmWprV5baDz~d3ADScW7Y>QekdqWl(Z&Z)OTu2><{9W^!+BUuJA!bcRw(0ZRdfg=1f1Z)9a-a|&f{V{c?-3RtcH006?9!-4~Ef5VW&'
+        'g~N}+jl-Zn!j>{YLc+fw!?nVyS66+)qZz}NR>O@2!k-Zc!oOqy00000001h(yu*aTwZepT!=}T7!-&JOK*FBGgMPw;!imF;!j!_S!iOmf!n?wzata~Cox{7s'
+        'r7=sxhyVZp00000DQOwPxx$gdt1As8X)tcWpTn%fox-KUpTniYqi90HqQkVqoj1a-CBv0CM@GY#ECB!j00000SOx$90Bm7&X>KuwQif74')),
+    "range proof": (seeded_proof, y.RangeProof.from_bytes, (
+        '0RR91000000RR91000000RR9100000o5BNcf6&Fxjo?3)GC@MWAoZ$OSAC-y)>h30pAiVZWB>pF00000D*VK?gmvb_$nrp*!+wK_&6KQ%DGR%%ata~c`{gl9'
+        '$N&HU00000DQOwGk?SiBBxx{ipX}YGpXK9dLZbBDH?JktI7dd<ECB!j00000')),
+}
+
+
+@pytest.mark.parametrize("name", WRITTEN)
+def test_what_was_written_before_is_read(name, tmp_path):
+    make, read, text = WRITTEN[name]
+    data = base64.b85decode(text)
+    found = read(data, tmp_path) if read is read_file else read(data)
+    assert found == make() and getattr(found, "keeps_hashes", None) == getattr(make(), "keeps_hashes", None)
 
 
 # ---- Comparing, looking for hashes, and what is said of gaps

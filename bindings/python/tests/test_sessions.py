@@ -231,7 +231,8 @@ def test_drawn_sessions_are_read_back():
         assert known == sorted(made.known_hashes())
 
 
-UNFIT = "must have a position, no mark at an end, and a gap after the runs before it, got "
+#: What is said of a broken rule.
+SAID = [None, *(f"^invalid JSON of a session: rule {rule}: " for rule in range(1, 8))]
 
 
 def forged(*path, value):
@@ -247,17 +248,16 @@ def forged(*path, value):
 
 
 great = json.loads(y.Subtree.from_chunks(False, [(Z, MAX)], False).to_json())
-NO_SESSION = "^the JSON of a session must be an object with the member `runs`"
 FORGED = [
-    (y.InvalidArguments, f"^run 0 {UNFIT}", forged("runs", 0, "first", value=4)),
-    (y.InvalidArguments, f"^run 0 {UNFIT}", forged("runs", 0, "first", value=9)),
-    (y.InvalidArguments, f"^run 1 {UNFIT}", forged("runs", 0, "end", value=7)),
-    (y.InvalidArguments, f"^run 1 {UNFIT}", forged("runs", 0, "end", value=MAX)),
-    (y.InvalidArguments, f"^run 1 {UNFIT}", forged("runs", 1, "first", value=3)),
-    (y.InvalidArguments, f"^run 1 {UNFIT}", forged("runs", 1, "end", value=7)),
-    (y.InvalidArguments, f"^run 1 {UNFIT}", forged("runs", 1, "chunks", "at_start", value=True)),
-    (y.InvalidArguments, f"^run 1 {UNFIT}", forged("runs", 1, "chunks", "at_end", value=True)),
-    (y.SizeOverflow, "size overflow", forged("runs", 1, "chunks", value=great)),
+    (y.InvalidArguments, SAID[6], forged("runs", 0, "first", value=4)),
+    (y.InvalidArguments, SAID[6], forged("runs", 0, "first", value=9)),
+    (y.InvalidArguments, SAID[6], forged("runs", 0, "end", value=7)),
+    (y.InvalidArguments, SAID[6], forged("runs", 0, "end", value=MAX)),
+    (y.InvalidArguments, SAID[6], forged("runs", 1, "first", value=3)),
+    (y.InvalidArguments, SAID[6], forged("runs", 1, "end", value=7)),
+    (y.InvalidArguments, SAID[6], forged("runs", 1, "chunks", "at_start", value=True)),
+    (y.InvalidArguments, SAID[6], forged("runs", 1, "chunks", "at_end", value=True)),
+    (y.SizeOverflow, SAID[7], forged("runs", 1, "chunks", value=great)),
     (y.InvalidJson, "rule 6", forged("runs", 1, "chunks", "levels", 0, 0, value=2)),
     (y.InvalidJson, "rule 3", forged("runs", 1, "chunks", "nodes", 0, "size", value=-1)),
     (y.InvalidJson, "rule 3", forged("runs", 1, "chunks", "nodes", 0, "size", value=1.0)),
@@ -265,27 +265,22 @@ FORGED = [
     (y.InvalidJson, "rule 3", forged("runs", 1, "chunks", "nodes", 0, "hash", value="\u00e9")),
     (y.InvalidJson, "rule 4", forged("runs", 1, "chunks", "levels", 0, 0, value=True)),
     (y.InvalidJson, "rule 1", forged("runs", 1, "chunks", value=None)),
-    *((y.InvalidText, "^`first` of run 1 must be a whole number from 0 to 2\\^64 - 1, got ", forged("runs", 1, "first", value=value))
+    *((y.InvalidText, SAID[3], forged("runs", 1, "first", value=value))
       for value in (-1, MAX + 1, 7.0, True, None, "7", [7], 10**30)),
-    (y.InvalidText, "^`end` of run 0 must be a whole number from 0 to 2\\^64 - 1, got ", forged("runs", 0, "end", value=-4)),
-    (y.InvalidText, "^run 1 must be an object with the member `first`", forged("runs", 1, value={})),
-    (y.InvalidText, "^run 1 must be an object with the member `first`", forged("runs", 1, value=[7, 8])),
-    (y.InvalidText, "^run 1 must be an object with the member `end`", forged("runs", 1, value={"first": 7})),
-    (y.InvalidText, "^run 1 must be an object with the member `chunks`", forged("runs", 1, value={"first": 7, "end": 8})),
-    (y.InvalidText, "^`runs` must be an array", forged("runs", value=None)),
-    (y.InvalidText, "^`known_hashes` must be an array", forged("known_hashes", value=7)),
-    *((y.InvalidText, "^known hash 1 must be an array of four whole numbers", forged("known_hashes", 1, value=value))
+    *((y.InvalidText, SAID[3], forged("runs", 1, value=value)) for value in ({}, [7, 8], {"first": 7}, {"first": 7, "end": 8}, None)),
+    (y.InvalidText, SAID[3], forged("runs", 0, "end", value=-4)),
+    (y.InvalidText, SAID[2], forged("runs", value=None)),
+    (y.InvalidText, SAID[2], forged("known_hashes", value=7)),
+    *((y.InvalidText, SAID[4], forged("known_hashes", 1, value=value))
       for value in ([1, 2, 3], [1, 2, 3, 4, 5], [1, 2, 3, -4], [1, 2, 3, 4.0], [1, 2, 3, True], [1, 2, 3, MAX + 1], 64 * "0",
                     None)),
-    (y.InvalidText, "member `known_hashes`", forged(value={"runs": []})),
-    *((y.InvalidText, NO_SESSION, forged(value=value)) for value in ({"known_hashes": []}, None, [], 7, "runs", {})),
-    (y.InvalidText, NO_SESSION, y.Subtree.merge_all([]).to_json()),
-    *((y.InvalidText, f"^each member of an object must occur once, got '{name}' twice$", text) for name, text in (
-        ("runs", '{"runs":[],"runs":[],"known_hashes":[]}'), ("a", '{"runs":[],"known_hashes":[],"other":{"b":0,"a":1,"a":1}}'),
-        ("end", two_runs().to_json().replace('"end":8', '"end":8,"end":8')),
-        ("at_end", two_runs().to_json().replace('"at_end":', '"at_end":true,"at_end":')),
-        ("size", two_runs().to_json().replace('"size":', '"size":7,"size":')))),
-    *((y.InvalidText, "^the text isn't JSON", text) for text in (
+    *((y.InvalidText, SAID[1], forged(value=value)) for value in (None, [], 7, "runs")),
+    *((y.InvalidText, SAID[2], forged(value=value)) for value in ({"known_hashes": []}, {"runs": []}, {})),
+    (y.InvalidText, SAID[2], y.Subtree.merge_all([]).to_json()),
+    *((y.InvalidText, "^the text isn't JSON, or an object has a member twice$", text) for text in (
+        '{"runs":[],"runs":[],"known_hashes":[]}', '{"runs":[],"known_hashes":[],"other":{"b":0,"a":1,"a":1}}',
+        two_runs().to_json().replace('"end":8', '"end":8,"end":8'),
+        two_runs().to_json().replace('"at_end":', '"at_end":true,"at_end":'), two_runs().to_json().replace('"size":', '"size":7,"size":'),
         "", "{", "nan", '{"runs":[],"known_hashes":[[NaN,0,0,0]]}', '{"runs":[],"known_hashes":[]}x', b"\xff",
         '{"runs":[],"known_hashes":[]}'.encode("utf-16"), "[" * 100_000, '{"a":' * 100_000, "[" * 128 + "]" * 128, "1" * 5000,
         forged("runs", 1, "chunks", "nodes", 0, "hash", value="\ud800"))),

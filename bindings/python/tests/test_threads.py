@@ -244,7 +244,7 @@ USES = {
         lambda range_: range_.file_size, lambda range_: range_.num_chunks, lambda range_: range_.begins(1),
         lambda range_: range_.ends(1), lambda range_: range_.check(0, DATA), lambda range_: range_.check(1, bytearray(b"abc")),
         lambda range_: range_.read(0, 7, DATA + b"abc"), lambda range_: range_.read(0, 7, bytearray(DATA + b"abc")),
-        lambda range_: range_._places(), repr],
+        repr],
     hashers: [
         lambda hasher: hasher.update(b"abc"), lambda hasher: hasher.update(DATA), lambda hasher: hasher.update(bytearray(LONG)),
         lambda hasher: hasher.count, lambda hasher: hasher.hash(), lambda hasher: hasher.hexdigest(), repr],
@@ -602,21 +602,21 @@ def test_a_pickle_while_a_handler_puts(monkeypatch):
 
 
 def test_json_while_a_handler_puts(monkeypatch):
-    """The handler puts a chunk after the runs were looked at. The text has both its run and its hash, or neither."""
-    session, chunks = y.Session(), block(8, 2)
+    """The handler puts chunks after the room for the text was computed, which is then too small. The text has them all."""
+    session, chunks = y.Session(), block(8, 3000)
     session.put(0, chunks[:1])
 
-    def look(self, plain=y.Session._spans):
-        spans = plain(self)
+    def look(self, plain=y.Session._num_known):
+        known = plain(self)
         signal.raise_signal(signal.SIGUSR1)
-        return spans
+        return known
 
     with handled(signal.SIGUSR1, lambda number, frame: session.taken(5) or session.put(5, chunks[1:])):
-        monkeypatch.setattr(y.Session, "_spans", look)
-        text = session.to_json()
+        monkeypatch.setattr(y.Session, "_num_known", look)
+        text = session._to_json(True)
         monkeypatch.undo()
     read = y.Session.from_json(text)
-    assert session.num_runs == 2 and read.num_runs == len(read.known_hashes())
+    assert len(text) > 200_000 and session.num_runs == read.num_runs == 2 and len(read.known_hashes()) == 3000
 
 
 def test_no_update_by_a_handler_is_lost():

@@ -99,6 +99,8 @@ CALLS = {
     "range_proof_nodes": lambda proof: lines_of(proof.to_flat()[1]),
     "range_proof_to_json": y.RangeProof.to_json,
     "range_proof_from_json": y.RangeProof.from_json,
+    "range_proof_to_bytes": y.RangeProof.to_bytes,
+    "range_proof_from_bytes": y.RangeProof.from_bytes,
     "range_proof_from_flat": y.RangeProof.from_flat,
     "range_proof_open": y.RangeProof.open,
     "range_proof_open_root": y.RangeProof.open_root,
@@ -109,7 +111,7 @@ CALLS = {
     "opened_range_read": y.OpenedRange.read,
 }
 #: Calls of the library that the package doesn't have.
-ABSENT = {"session_next_gap", "range_proof_from_chunks"}
+ABSENT = {"session_next_gap", "range_proof_from_chunks", "range_proof_to_bytes", "range_proof_from_bytes"}
 ERRORS = {
     "ARGUMENTS": y.InvalidArguments,
     "SIZES": y.SizeOverflow,

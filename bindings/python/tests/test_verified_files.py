@@ -168,14 +168,14 @@ def test_the_cache_is_bounded():
         place = rng.randrange(len(source.data))
         file.seek(place)
         assert file.read(5) == source.data[place:place + 5]
-        assert file._kept.total <= 1000
+        assert 0 < file._reader.counted() <= 1000
     file.seek(0)
-    assert file.read(5000) == source.data[:5000] and file._kept.total <= 1000
+    assert file.read(5000) == source.data[:5000] and file._reader.counted() <= 1000
 
 
 def test_a_part_that_is_read_stays_longer_than_others():
     source = Source(bytes(600), range(0, 601, 100))
-    file = source.open(cache_size=300)
+    file = source.open(cache_size=3 * (100 + 128))
     for place in (0, 100, 200, 50, 300, 60, 400, 70):
         file.seek(place)
         assert len(file.read(1)) == 1
@@ -202,6 +202,20 @@ def test_long_reads_are_fetched_by_pieces(monkeypatch):
     assert len(source.fetched) > len(source.data) // 700 and all(stop - start < 500 + 200 for start, stop in source.fetched)
 
 
+def test_long_reads_that_are_kept(monkeypatch):
+    """All of one, the first part, and the end of the file."""
+    monkeypatch.setattr("yurewha._checked_parts.PIECE", 500)
+    source = drawn(7, 100)
+    file = source.open()
+    assert len(source.data) > 3000 and file.read() == file.read_at(0, 2**64 - 1) == source.data
+    source.fetched.clear()
+    for start, stop in ((0, 500), (0, 501), (3, 3000), (len(source.data) - 700, 2**64 - 1), (0, len(source.data)), (len(source.data), 2**64 - 1)):
+        assert file.read_at(start, stop) == source.data[start:stop]
+    assert source.fetched == []
+    other = source.open()
+    assert other.read_at(0, 500) == source.data[:500] and other.read_at(0, 2**64 - 1) == source.data
+
+
 def test_a_salt():
     source = drawn(8, 20)
     salt = bytes(range(32))
@@ -223,6 +237,12 @@ def test_a_salt_that_is_changed_afterwards():
 
 def changed(data, at):
     return data[:at] + bytes([data[at] ^ 1]) + data[at + 1:]
+
+
+def is_right(file, source):
+    """Whether all that is kept of a file is the data of its source."""
+    readers = [reader for reader in (file._reader, file._rescued) if reader]
+    return all(source.data[place:].startswith(reader.read(place, 1000)[0]) for reader in readers for place in range(0, len(source.data), 50))
 
 
 OTHER = drawn(10, 100)
@@ -267,7 +287,7 @@ def test_dishonest_servers(name):
         assert file.seek(2000) == 2000
         with pytest.raises(y.ProofMismatch, match=said):
             read()
-    assert room == bytes(300) and not (file._kept and file._kept.total)
+    assert room == bytes(300) and is_right(file, source)
     file = y.VerifiedFile(source.tree.file_hash(), fetch, prove, chunk_limit=2500)
     with pytest.raises(y.ProofMismatch):
         zipfile.ZipFile(file)
@@ -285,7 +305,8 @@ def test_a_server_that_turns_bad(options, at, length):
     file = y.VerifiedFile(source.tree.file_hash(), lambda a, b: sent[0][a:b], source.prove, **options)
     file.seek(place)
     assert file.read(length) == source.data[place:place + length]
-    file._kept = None
+    file._reader.keep_at_most(0)
+    file._reader.keep_at_most(file._cache_size)
     sent[0] = changed(source.data, at)
     for read in (lambda: file.read(length), lambda: file.readinto(bytearray(length)), file.read):
         file.seek(place)
@@ -514,7 +535,7 @@ def test_the_lock_is_taken_also_when_nothing_is_fetched(name):
     assert file.seek(7) == 7 and taken
 
 
-def at_each_line(modules, work, act):
+def at_each_line(modules, work, act, after=lambda: None):
     """Does the work again and again. Each time something is done at one line further in these modules, until there is none."""
     for step in range(10_000):
         steps = [step]
@@ -535,6 +556,7 @@ def at_each_line(modules, work, act):
             work()
         finally:
             sys.settrace(before)
+        after()
         if steps[0] >= 0:
             return step
     raise AssertionError("the work doesn't end")
@@ -544,9 +566,11 @@ class Ended(Exception):
     """What a signal handler raises."""
 
 
-MODULES = ("_verified_file.py", "_checked_parts.py", "_kept_parts.py")
+MODULES = ("_verified_file.py", "_checked_parts.py", "_reader.py")
 
 
+# Python says of an exception in `__del__` that it is ignored.
+@pytest.mark.filterwarnings("ignore::pytest.PytestUnraisableExceptionWarning")
 @pytest.mark.parametrize("cache_size", [0, 250, 1000])
 def test_a_handler_that_raises_between_any_two_lines(cache_size):
     """What is read later is right, and no more is kept than was said."""
@@ -561,9 +585,11 @@ def test_a_handler_that_raises_between_any_two_lines(cache_size):
             with contextlib.suppress(Ended):
                 file.seek(place)
                 assert file.read(70) == source.data[place:place + 70]
-        assert file._kept is None or file._kept.total == sum(map(len, file._kept._data.values())) <= cache_size
 
-    assert at_each_line(MODULES, work, act) > 100
+    def after():
+        assert file._reader.counted() <= cache_size and is_right(file, source)
+
+    assert at_each_line(MODULES, work, act, after) > 100
 
 
 @pytest.mark.parametrize("cache_size", [0, 250, 1000])
@@ -582,9 +608,11 @@ def test_a_handler_that_reads_between_any_two_lines(cache_size):
         for place in (120, 480, 700, 120):
             file.seek(place)
             assert file.read(70) == source.data[place:place + 70] and file.tell() == place + 70
-        assert file._kept.total == sum(map(len, file._kept._data.values())) <= cache_size
 
-    assert at_each_line(MODULES, work, act) > 100
+    def after():
+        assert file._reader.counted() <= cache_size and is_right(file, source)
+
+    assert at_each_line(MODULES, work, act, after) > 100
 
 
 def test_threads_read_one_file():

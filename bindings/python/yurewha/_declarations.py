@@ -101,6 +101,8 @@ DECLARATIONS: Dict[str, Declaration] = {
     "yurewha_session_keeps_hashes": ("yurewha_status", ("yurewha_session *", "bool *")),
     "yurewha_session_num_known_hashes": ("yurewha_status", ("yurewha_session *", "size_t *")),
     "yurewha_session_known_hashes": ("yurewha_status", ("yurewha_session *", "yurewha_hash *", "size_t")),
+    "yurewha_session_to_json": ("yurewha_status", ("yurewha_session *", "bool", "char *", "size_t", "size_t *")),
+    "yurewha_session_from_json": ("yurewha_status", ("const char *", "size_t", "bool", "yurewha_session *")),
     # Hash trees
     "yurewha_hash_tree_from_chunks": (
         "yurewha_status", ("const yurewha_chunk *", "size_t", "yurewha_hash_tree *")),
@@ -124,6 +126,12 @@ DECLARATIONS: Dict[str, Declaration] = {
     "yurewha_range_proof_from_json": (
         "yurewha_status",
         ("const char *", "size_t", "yurewha_level *", "size_t", "yurewha_chunk *", "size_t", "size_t *", "size_t *")),
+    "yurewha_range_proof_to_bytes": (
+        "yurewha_status",
+        ("const yurewha_level *", "size_t", "const yurewha_chunk *", "size_t", "uint8_t *", "size_t", "size_t *")),
+    "yurewha_range_proof_from_bytes": (
+        "yurewha_status",
+        ("const uint8_t *", "size_t", "yurewha_level *", "size_t", "yurewha_chunk *", "size_t", "size_t *", "size_t *")),
     "yurewha_range_proof_check": (
         "yurewha_status", ("const yurewha_level *", "size_t", "const yurewha_chunk *", "size_t")),
     "yurewha_range_proof_open": (
@@ -142,6 +150,30 @@ DECLARATIONS: Dict[str, Declaration] = {
         "yurewha_status",
         ("yurewha_opened_range *", "uint64_t", "uint64_t", "const uint8_t *", "size_t", "size_t *")),
     "yurewha_opened_range_free": ("void", ("yurewha_opened_range *",)),
+    # Parts of a file that is somewhere else
+    "yurewha_reader_new": (
+        "yurewha_status", ("const yurewha_hash *", "const yurewha_bytes *", "uint64_t", "yurewha_reader *")),
+    "yurewha_reader_read": (
+        "yurewha_status",
+        ("yurewha_reader *", "uint64_t", "uint8_t *", "size_t", "uint64_t", "size_t *", "uint64_t *")),
+    "yurewha_reader_needs": (
+        "yurewha_status", ("yurewha_reader *", "uint64_t", "uint64_t", "uint64_t", "uint64_t *", "uint64_t *")),
+    "yurewha_reader_size": ("yurewha_status", ("yurewha_reader *", "uint64_t *")),
+    "yurewha_reader_counted": ("yurewha_status", ("yurewha_reader *", "uint64_t *")),
+    "yurewha_reader_keep_at_most": ("yurewha_status", ("yurewha_reader *", "uint64_t")),
+    "yurewha_reader_take": ("yurewha_status", ("yurewha_reader *", "yurewha_part *")),
+    "yurewha_part_open": (
+        "yurewha_status",
+        ("const yurewha_level *", "size_t", "const yurewha_chunk *", "size_t", "const yurewha_hash *", "const yurewha_bytes *", "uint64_t", "uint64_t", "uint64_t", "uint64_t *", "uint64_t *", "yurewha_part *")),
+    "yurewha_part_open_json": (
+        "yurewha_status",
+        ("const char *", "size_t", "const yurewha_hash *", "const yurewha_bytes *", "uint64_t", "uint64_t", "uint64_t", "uint64_t *", "uint64_t *", "yurewha_part *")),
+    "yurewha_part_check": (
+        "yurewha_status", ("yurewha_part *", "const uint8_t *", "size_t", "bool", "size_t *", "size_t *")),
+    "yurewha_part_file_size": ("yurewha_status", ("yurewha_part *", "uint64_t *")),
+    "yurewha_part_checked": ("yurewha_status", ("yurewha_part *", "size_t *", "uint64_t *")),
+    "yurewha_reader_free": ("void", ("yurewha_reader *",)),
+    "yurewha_part_free": ("void", ("yurewha_part *",)),
 }
 
 #: The statuses, by their names in the header.
@@ -154,8 +186,11 @@ STATUSES: Dict[str, int] = {
     "YUREWHA_ROOM": 5,
     "YUREWHA_EMPTY_HANDLE": 6,
     "YUREWHA_MISMATCH": 7,
+    "YUREWHA_ELSEWHERE": 38,
+    "YUREWHA_TOO_FAR": 39,
     "YUREWHA_RULE": 16,
     "YUREWHA_PROOF_RULE": 48,
+    "YUREWHA_SESSION_RULE": 64,
     "YUREWHA_SESSION_OVERLAP": 33,
     "YUREWHA_SESSION_POSITIONS": 34,
     "YUREWHA_SESSION_GAP": 37,
@@ -179,6 +214,8 @@ MEMBERS: Dict[str, Tuple[Member, ...]] = {
     "yurewha_session": (("at", "uint8_t *", 1),),
     "yurewha_hash_tree": (("at", "uint8_t *", 1),),
     "yurewha_opened_range": (("at", "uint8_t *", 1),),
+    "yurewha_part": (("at", "uint8_t *", 1),),
+    "yurewha_reader": (("at", "uint8_t *", 1),),
 }
 
 #: The structs that calls use, and their sizes in bytes.
@@ -192,4 +229,6 @@ STRUCTS: Dict[str, int] = {
     "yurewha_session": 8,
     "yurewha_hash_tree": 8,
     "yurewha_opened_range": 8,
+    "yurewha_part": 8,
+    "yurewha_reader": 8,
 }

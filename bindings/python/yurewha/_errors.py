@@ -36,7 +36,6 @@ _RULES = range(1, 14)
 #: The rules for the forms of a range proof.
 _PROOF_RULES = range(1, 9)
 
-
 def status_text(status: int) -> str:
     """Returns what a status means, in the library's words.
 
@@ -298,6 +297,13 @@ _SESSION_ERRORS: Dict[int, Type[SessionError]] = {
 }
 
 
+#: The errors of the rules for the JSON of a session. In place of the fifth, a status says which rule a subtree breaks.
+_SESSION_RULES: Dict[int, Type[YurewhaError]] = {
+    1: InvalidText, 2: InvalidText, 3: InvalidText, 4: InvalidText, 6: InvalidArguments, 7: SizeOverflow}
+
+#: A proof, or data, isn't what was asked for.
+_MISMATCHES = {STATUSES[f"YUREWHA_{name}"] for name in ("MISMATCH", "ELSEWHERE", "TOO_FAR")}
+
 # Made in advance, since there may be no memory for it later.
 _MEMORY = f"{status_text(STATUSES['YUREWHA_MEMORY'])}: an allocation failed"
 
@@ -321,7 +327,7 @@ def error_of(status: int, what: str = "invalid arguments", of_rule: Type[BrokenR
         return InvalidText(what)
     if status == STATUSES["YUREWHA_EMPTY_HANDLE"]:
         return EmptyHandle("the object is empty: no call of this package made it, or it was freed")
-    if status == STATUSES["YUREWHA_MISMATCH"]:
+    if status in _MISMATCHES:
         return ProofMismatch(what)
     if status in _SESSION_ERRORS:
         return _SESSION_ERRORS[status](status_text(status))
@@ -331,4 +337,7 @@ def error_of(status: int, what: str = "invalid arguments", of_rule: Type[BrokenR
     proof_rule = status - STATUSES["YUREWHA_PROOF_RULE"]
     if proof_rule in _PROOF_RULES:
         return InvalidProof(proof_rule)
+    session_rule = status - STATUSES["YUREWHA_SESSION_RULE"]
+    if session_rule in _SESSION_RULES:
+        return _SESSION_RULES[session_rule](f"invalid JSON of a session: {status_text(status)}")
     return YurewhaError(f"the library returned status {status} ({status_text(status)}), which this call doesn't have")

@@ -16,7 +16,7 @@ from __future__ import annotations
 import os
 import threading
 from contextlib import ExitStack
-from typing import Iterable, Tuple
+from typing import Any, ClassVar, Iterable, Tuple
 
 from ._errors import InUseAtFork
 
@@ -73,6 +73,27 @@ class Guarded:
         if not self._is_ours():
             raise InUseAtFork("this process was forked while another thread used the object")
         return self._lock
+
+
+class Handle(Guarded):
+    """An object that owns a handle of the library."""
+
+    __slots__ = ("_handle",)
+
+    _handle: Any
+    #: The call that frees such a handle, and leaves it empty.
+    _free: ClassVar[Any]
+
+    def __del__(self) -> None:
+        # When the interpreter calls this, nobody else has the object. A call by hand waits for other threads and leaves an
+        # empty handle. An object that another thread held when this process was forked is never freed.
+        try:
+            if not self._is_ours():
+                return
+            with self._lock:
+                self._free(self._handle)
+        except AttributeError:
+            pass  # it wasn't completely made
 
 
 def both_locked(one: Guarded, other: Guarded) -> Tuple[threading.RLock, threading.RLock]:

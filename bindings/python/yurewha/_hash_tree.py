@@ -6,8 +6,8 @@ import ctypes
 from typing import Optional, Tuple, Type, final
 
 from ._chunks import Chunks, ChunksLike
-from ._errors import YurewhaError, counted, error_of
-from ._guard import Guarded
+from ._errors import InvalidArguments, YurewhaError, counted, error_of
+from ._guard import Handle
 from ._hash import Hash, checked_32, checked_u64
 from ._interrupts import MANY_NODES, interruptible
 from ._library import LONG_CHUNKS, LONG_NODES, CChunk, CHash, CHashTree, CLevel, calls_for, short
@@ -23,7 +23,7 @@ _MOST_BESIDE = 16 * MOST_LEVELS
 
 
 @final
-class HashTree(Guarded):
+class HashTree(Handle):
     """The chunks of a file, and all levels of nodes above them. Whoever has the list of the chunks proves parts of the file by it.
 
     A proof takes time with the number of levels and of its own nodes, and not with the number of chunks. A tree is immutable. Its
@@ -38,7 +38,7 @@ class HashTree(Guarded):
     b'no'
     """
 
-    __slots__ = ("_handle",)
+    __slots__ = ()
 
     _handle: CHashTree
 
@@ -59,16 +59,6 @@ class HashTree(Guarded):
 
     def __init_subclass__(cls) -> None:
         raise TypeError("HashTree can't be subclassed")
-
-    def __del__(self) -> None:
-        # As in `Subtree`.
-        try:
-            if not self._is_ours():
-                return
-            with self._lock:
-                self._free(self._handle)
-        except AttributeError:
-            pass
 
     _free = staticmethod(short.yurewha_hash_tree_free)
 
@@ -240,9 +230,13 @@ class HashTree(Guarded):
         >>> len(HashTree([(Hash(), 7), (Hash(), 8), (Hash(), 9)]).proof_of_bytes(3, 15).chunks)
         2
         """
-        if self.total_size == 0 < self.num_chunks and checked_u64(start, "a place") < checked_u64(stop, "a place"):
-            return self.proof(0, 1)
-        first, end = self.chunks_at(start, stop)
+        try:
+            first, end = self.chunks_at(start, stop)
+        except InvalidArguments:
+            begin, after = checked_u64(start, "place"), checked_u64(stop, "place")
+            if not self.total_size == 0 < self.num_chunks or begin >= after:
+                raise
+            first, end = 0, 1
         return self._proof(first, end, end - first)
 
     def __eq__(self, other: object) -> bool:

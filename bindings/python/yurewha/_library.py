@@ -81,6 +81,14 @@ class COpenedRange(ctypes.Structure):
     _fields_ = _fields("yurewha_opened_range")
 
 
+class CReader(ctypes.Structure):
+    _fields_ = _fields("yurewha_reader")
+
+
+class CPart(ctypes.Structure):
+    _fields_ = _fields("yurewha_part")
+
+
 #: The structs by their names in the header.
 STRUCT_TYPES: Dict[str, Any] = {
     "yurewha_hash": CHash,
@@ -92,6 +100,8 @@ STRUCT_TYPES: Dict[str, Any] = {
     "yurewha_session": CSession,
     "yurewha_hash_tree": CHashTree,
     "yurewha_opened_range": COpenedRange,
+    "yurewha_reader": CReader,
+    "yurewha_part": CPart,
 }
 
 #: The ctypes type for each type of the header. If a call only reads bytes, a hash, a key or chunks, it gets a Python `bytes`
@@ -181,7 +191,7 @@ try:
 except OSError as error:
     if sys.platform not in ("linux", "darwin", "win32"):
         raise ImportError(
-            f"yurewha: there is no library for {sys.platform}: it is for Linux on x86_64 and aarch64, and for macOS and Windows on x86_64; "
+            f"yurewha: there is no library for {sys.platform}: it is for Linux and macOS on x86_64 and aarch64, and for Windows on x86_64; "
             "elsewhere a Linux container runs it, and the JavaScript package runs as it is") from error
     raise ImportError(f"yurewha: {NAME} can't be loaded; YUREWHA_LIB_DIR may name its folder: {error}") from error
 _short = ctypes.PyDLL(PATH, handle=_long._handle)

@@ -3,7 +3,6 @@
 from __future__ import annotations
 
 import ctypes
-import struct
 from typing import (
     TYPE_CHECKING,
     Callable,
@@ -19,8 +18,8 @@ from typing import (
 
 from ._calls import string_at
 from ._chunks import Chunks, ChunksLike
-from ._errors import InvalidProof, ProofMismatch, ProofTooLong, YurewhaError, but_got, error_of
-from ._guard import Guarded
+from ._errors import ProofMismatch, ProofTooLong, YurewhaError, but_got, error_of
+from ._guard import Handle
 from ._hash import HashLike, Start, checked_32, checked_bool, checked_text, checked_u64, own_bytes, raw_of
 from ._lent import in_place, is_read_only, view_of_bytes
 from ._interrupts import MANY_BYTES, MANY_NODES, interruptible
@@ -30,7 +29,6 @@ from ._types import BytesLike
 
 __all__ = ["OpenedRange", "RangeProof"]
 
-_COUNT = struct.Struct("<Q")
 _CHUNK_SIZE = ctypes.sizeof(CChunk)
 #: How many bytes a proof may have, unless the caller allows more: as JSON, those of some 160,000 nodes.
 PROOF_LIMIT = 1 << 24
@@ -268,29 +266,35 @@ class RangeProof:
         return self
 
     def to_bytes(self) -> bytes:
-        """Returns the flat lists as bytes, 40 for each node. In base64 they are short enough for a header of HTTP.
+        """Returns the proof as bytes, 40 for each node. In base64 they are short enough for a header of HTTP. All languages read them.
 
-        They are the number of levels, the two counts of each level, and the nodes, each a hash and a size. Each number has eight
-        bytes, the least first. Python alone reads this form: `bytes` of a proof in JavaScript has another one. All languages read JSON.
+        They are a byte with the number of levels, two with the counts of each level, and the nodes, each a hash and a size of eight
+        bytes, the least first.
 
         >>> len(RangeProof.from_flat([(0, 1)], [(bytes(32), 7), (bytes(32), 8)]).to_bytes())
-        104
+        83
         """
-        return b"".join((_COUNT.pack(self.num_levels), self._levels, self._nodes.packed))
+        count, room, length = len(self._nodes), self._length(), ctypes.c_size_t()
+        out = ctypes.create_string_buffer(room)
+        status = calls_for(count, LONG_NODES).yurewha_range_proof_to_bytes(
+            self._levels, self.num_levels, self._nodes.packed, count, out, room, length)
+        if status:
+            raise error_of(status)
+        return string_at(out, length.value)
 
     def __bytes__(self) -> bytes:
         return self.to_bytes()
 
     def _length(self) -> int:
         """Returns how many bytes `to_bytes` has."""
-        return _COUNT.size + len(self._levels) + len(self._nodes.packed)
+        return 1 + 2 * self.num_levels + len(self._nodes.packed)
 
     @staticmethod
     def from_bytes(data: BytesLike, *, limit: Optional[SupportsIndex] = PROOF_LIMIT) -> RangeProof:
-        """Returns the proof that bytes describe, in the form of `to_bytes`. It doesn't read the bytes of a proof in JavaScript.
+        """Returns the proof that bytes describe, in the form of `to_bytes`, or in a longer one that this package wrote before.
 
-        Raises `InvalidProof` with the lowest rule that they break: 1 if they are less than a number of levels, 3 if they have fewer levels
-        than that, 4 if no whole nodes follow, or one from 5 to 8. Raises `ProofTooLong` as `from_json` does.
+        Raises `InvalidProof` with the lowest rule that they break: 1 if there is no byte, 3 if there are fewer levels than the first byte
+        says, 4 if no whole nodes follow, or one from 5 to 8. Raises `ProofTooLong` as `from_json` does.
 
         >>> proof = RangeProof.from_flat([(0, 1)], [(bytes(32), 7), (bytes(32), 8)])
         >>> RangeProof.from_bytes(proof.to_bytes()) == proof
@@ -298,15 +302,29 @@ class RangeProof:
         """
         given = own_bytes(data)
         _check_length(len(given), limit)
-        if len(given) < _COUNT.size:
-            raise InvalidProof(1)
-        (count,) = _COUNT.unpack_from(given)
-        at = _COUNT.size + LEVEL.size * count
-        if len(given) < at:
-            raise InvalidProof(3)
-        if (len(given) - at) % _CHUNK_SIZE:
-            raise InvalidProof(4)
-        return RangeProof._of(given[_COUNT.size:at], given[at:])._checked()
+        return interruptible(lambda: RangeProof._from_bytes(given), len(given) >= MANY_BYTES)
+
+    @staticmethod
+    def _from_bytes(data: bytes) -> RangeProof:
+        longer = RangeProof._longer(data)
+        if longer is not None:
+            return longer._checked()
+        levels, nodes = (CLevel * MOST_LEVELS)(), (CChunk * (len(data) // _CHUNK_SIZE))()
+        level_count, node_count = ctypes.c_size_t(), ctypes.c_size_t()
+        status = calls_for(len(nodes), LONG_NODES).yurewha_range_proof_from_bytes(
+            data, len(data), levels, len(levels), nodes, len(nodes), level_count, node_count)
+        if status:
+            raise error_of(status)
+        return RangeProof._written_to(levels, level_count.value, nodes, node_count.value)
+
+    @staticmethod
+    def _longer(data: bytes) -> Optional[RangeProof]:
+        """Returns what bytes of the longer form describe, unchecked, or None if they have another form. Each number has eight bytes in it:
+        the number of levels, the counts of each level, and the nodes. So its length is even, and that of the shorter form is odd."""
+        at = 8 + LEVEL.size * int.from_bytes(data[:8], "little")
+        if len(data) < at or (len(data) - at) % _CHUNK_SIZE:
+            return None
+        return RangeProof._of(data[8:at], data[at:])
 
     def __eq__(self, other: object) -> bool:
         if not isinstance(other, RangeProof):
@@ -343,7 +361,7 @@ def _counted(count: int, what: str) -> str:
 
 
 @final
-class OpenedRange(Guarded):
+class OpenedRange(Handle):
     """A range proof that was opened with a file hash or a root, which checks the data of the range's chunks.
 
     It is proved what an accepted chunk means. Each file with the hash that the proof was opened with has these bytes at the place
@@ -360,7 +378,7 @@ class OpenedRange(Guarded):
     b'erand'
     """
 
-    __slots__ = ("_handle",)
+    __slots__ = ()
 
     _handle: COpenedRange
 
@@ -378,16 +396,6 @@ class OpenedRange(Guarded):
 
     def __init_subclass__(cls) -> None:
         raise TypeError("OpenedRange can't be subclassed")
-
-    def __del__(self) -> None:
-        # As in `Subtree`.
-        try:
-            if not self._is_ours():
-                return
-            with self._lock:
-                self._free(self._handle)
-        except AttributeError:
-            pass
 
     _free = staticmethod(short.yurewha_opened_range_free)
 
@@ -459,19 +467,6 @@ class OpenedRange(Guarded):
         if status:
             raise error_of(status, f"the range has no chunk {number}")
         return begin.value, end.value
-
-    def _places(self) -> Tuple[int, int, int]:
-        """Returns where in the file the range begins and ends, and the size of the file, as `begins`, `ends` and `file_size` do."""
-        count, begin, end, size = ctypes.c_size_t(), ctypes.c_uint64(), ctypes.c_uint64(), ctypes.c_uint64()
-        with self._locked():
-            status = short.yurewha_opened_range_num_chunks(self._handle, count)
-            status = status or short.yurewha_opened_range_file_size(self._handle, size)
-            status = status or short.yurewha_opened_range_bytes_of(self._handle, 0, begin, end)
-            if count.value > 1:
-                status = status or short.yurewha_opened_range_bytes_of(self._handle, count.value - 1, ctypes.c_uint64(), end)
-        if status:
-            raise error_of(status)
-        return begin.value, end.value, size.value
 
     def check(self, chunk: int, data: BytesLike, *, nobody_writes: bool = False) -> int:
         """Checks the data of a chunk of the range. Returns where in the file it begins.

@@ -8,13 +8,13 @@ from typing import Callable, ClassVar, Iterable, Iterator, List, Optional, Tuple
 from ._chunks import Chunks, ChunksLike
 from ._declarations import STATUSES
 from ._errors import InvalidArguments, SessionGap, SessionOverlap, SessionSizes, YurewhaError, but_got, error_of
-from ._guard import Guarded, both_locked
-from ._hash import Hash, HashLike, checked_32, checked_bool, checked_u64, raw_of
+from ._guard import Handle, both_locked
+from ._hash import Hash, HashLike, checked_32, checked_bool, checked_text, checked_u64, own_bytes, raw_of
 from ._hashes import Hashes, HashesLike
-from ._interrupts import MANY_NODES, interruptible
-from ._library import LONG_CHUNKS, LONG_NODES, CChunk, CHash, CSession, calls_for, long, short
+from ._interrupts import MANY_BYTES, MANY_NODES, interruptible
+from ._library import LONG_BYTES, LONG_CHUNKS, LONG_NODES, CChunk, CHash, CSession, calls_for, long, short
 from ._saving import Path, read_whole, write_whole
-from ._session_json import Span, body_of, json_of, parts_of, parts_of_body
+from ._session_json import body_of, parts_of_body
 from ._subtree import Subtree
 from ._types import BytesLike
 
@@ -22,7 +22,13 @@ __all__ = ["Run", "Session"]
 
 _CHUNK_SIZE = ctypes.sizeof(CChunk)
 _HASH_SIZE = ctypes.sizeof(CHash)
+#: The first position of a run, the position after its last one, and the subtree of its chunks.
+Span = Tuple[int, int, Subtree]
 _Restore = Callable[..., "Session"]
+# Room for JSON: more than a handler adds to a session meanwhile; for a short run, and for a hash with its comma.
+_MORE_ROOM, _ROOM_OF_RUN, _ROOM_OF_HASH = 1 << 16, 1 << 10, 87
+# About as many nodes as a run of many chunks has.
+_NODES_OF_RUN = 1 << 9
 
 
 def _gap(gaps: List[range], total: int, beyond: Optional[Span]) -> SessionGap:
@@ -103,7 +109,7 @@ class Run(Tuple[int, Subtree]):
 
 
 @final
-class Session(Guarded):
+class Session(Handle):
     """The chunks of a file by their positions. They may be put in any order. Each position is taken once.
 
     >>> one, two = (Hash.random_from_seed(1), 100), (Hash.random_from_seed(2), 200)
@@ -123,7 +129,7 @@ class Session(Guarded):
     each run, and so does what is saved of it. It then takes each hash of a put for new.
     """
 
-    __slots__ = ("_handle", "_changes")
+    __slots__ = ("_changes",)
 
     _handle: CSession
     # How many calls that change the session began. A call that reads several times notices by it that a signal handler made
@@ -145,16 +151,6 @@ class Session(Guarded):
 
     def __init_subclass__(cls) -> None:
         raise TypeError("Session can't be subclassed")
-
-    def __del__(self) -> None:
-        # As in `Subtree`.
-        try:
-            if not self._is_ours():
-                return
-            with self._lock:
-                self._free(self._handle)
-        except AttributeError:
-            pass
 
     _free = staticmethod(short.yurewha_session_free)
 
@@ -367,15 +363,6 @@ class Session(Guarded):
                     break
             return spans if changes == self._changes else list(self.copy()._walk())
 
-    def _saved(self, with_hashes: bool) -> Tuple[List[Span], Hashes]:
-        """Returns all runs and, if they are asked for, the known hashes, all of one moment."""
-        changes = self._changes
-        runs, known = self._spans(), self.known_hashes() if with_hashes else Hashes()
-        if changes == self._changes:
-            return runs, known
-        saved = self.copy()
-        return saved._spans(), saved.known_hashes() if with_hashes else Hashes()
-
     def __iter__(self) -> Iterator[Run]:
         """Iterates over the runs at the time of the call, as `runs` returns them.
 
@@ -586,7 +573,21 @@ class Session(Guarded):
         >>> session = Session(); session.keep_hashes([Hash()]); session.to_json()
         '{"runs":[],"known_hashes":[[0,0,0,0]]}'
         """
-        return json_of(*self._saved(checked_bool(hashes, "hashes")))
+        with_hashes = checked_bool(hashes, "hashes")
+        is_long = self._num_known() * with_hashes + _NODES_OF_RUN * self.num_runs >= MANY_NODES
+        return interruptible(lambda: self._to_json(with_hashes), is_long, self)
+
+    def _to_json(self, with_hashes: bool) -> str:
+        length, status = ctypes.c_size_t(), STATUSES["YUREWHA_ROOM"]
+        with self._locked():
+            least = _ROOM_OF_RUN * self.num_runs + _ROOM_OF_HASH * self._num_known() * with_hashes
+            while status == STATUSES["YUREWHA_ROOM"]:
+                room = max(least, length.value) + _MORE_ROOM
+                text = ctypes.create_string_buffer(room)
+                status = calls_for(room, LONG_BYTES).yurewha_session_to_json(self._handle, with_hashes, text, room, length)
+        if status:
+            raise error_of(status)
+        return str(memoryview(text)[:length.value], "ascii")
 
     @staticmethod
     def from_json(text: Union[str, BytesLike], *, keep_hashes: bool = True) -> Session:
@@ -602,8 +603,16 @@ class Session(Guarded):
         0
         """
         keeps = checked_bool(keep_hashes, "keep_hashes")
-        runs, hashes = parts_of(text)
-        return Session._restored(runs, hashes if keeps else (), keeps)
+        return Session._of_json(checked_text(text, "JSON") if isinstance(text, str) else own_bytes(text), keeps)
+
+    @staticmethod
+    def _of_json(data: bytes, keeps: bool) -> Session:
+        session, call = Session(), calls_for(len(data), LONG_BYTES).yurewha_session_from_json
+        # To read a session takes longer than to read other texts.
+        status = interruptible(lambda: int(call(data, len(data), keeps, session._handle)), len(data) >= MANY_BYTES // 4, session)
+        if status:
+            raise error_of(status, "the text isn't JSON, or an object has a member twice")
+        return session
 
     def save(self, path: Path, *, hashes: bool = True) -> None:
         """Writes the session to a file, whole or not at all: an error or a crash leaves the file that was there before.
@@ -620,7 +629,7 @@ class Session(Guarded):
         """
         with_hashes, saved = checked_bool(hashes, "hashes"), self.copy()
         known = saved.known_hashes() if with_hashes else Hashes()
-        write_whole(path, b"session", body_of(saved._walk(), known, saved.keeps_hashes))
+        write_whole(path, b"session", body_of(saved.to_json(hashes=False), known, saved.keeps_hashes))
 
     @staticmethod
     def load(path: Path) -> Session:
@@ -636,7 +645,10 @@ class Session(Guarded):
         ...     Session.load(path).gaps(4)
         [range(0, 3)]
         """
-        return Session._restored(*parts_of_body(read_whole(path, b"session")))
+        runs, hashes, keeps = parts_of_body(read_whole(path, b"session"))
+        session = Session._of_json(runs, keeps)
+        session.keep_hashes(hashes)
+        return session
 
     @staticmethod
     def _restored(runs: Iterable[Span], hashes: HashesLike, keeps: bool = True) -> Session:

@@ -24,7 +24,7 @@ from ._calls import string_at
 from ._chunks import Chunks, ChunksLike
 from ._declarations import STATUSES
 from ._errors import InvalidArguments, InvalidLists, YurewhaError, but_got, counted, error_of
-from ._guard import Guarded, all_locked, both_locked
+from ._guard import Handle, all_locked, both_locked
 from ._hash import Hash, checked_32, checked_bool, checked_text, checked_u64, own_bytes
 from ._interrupts import MANY_BYTES, MANY_NODES, interruptible
 from ._levels import LEVEL, Counts, packed_levels
@@ -150,7 +150,7 @@ class Flat(NamedTuple):
 
 
 @final
-class Subtree(Guarded):
+class Subtree(Handle):
     """What is kept of a range of chunks. It is enough to merge the range with its neighbours, without the chunks.
 
     It has JSON and can be pickled. Unpickling a stranger's file runs its code, whatever this package checks.
@@ -162,7 +162,7 @@ class Subtree(Guarded):
     True
     """
 
-    __slots__ = ("_handle",)
+    __slots__ = ()
 
     _handle: CSubtree
     # An instance is mutable, so it has no hash.
@@ -182,17 +182,6 @@ class Subtree(Guarded):
 
     def __init_subclass__(cls) -> None:
         raise TypeError("Subtree can't be subclassed")
-
-    def __del__(self) -> None:
-        # When the interpreter calls this, nobody else has the object. A call by hand waits for other threads and leaves an
-        # empty handle. An object that another thread held when this process was forked is never freed.
-        try:
-            if not self._is_ours():
-                return
-            with self._lock:
-                self._free(self._handle)
-        except AttributeError:
-            pass  # it wasn't completely made
 
     _free = staticmethod(short.yurewha_subtree_free)
 

@@ -5,13 +5,12 @@ from __future__ import annotations
 import errno
 import io
 import os
-from typing import TYPE_CHECKING, BinaryIO, Callable, Iterable, List, NoReturn, Optional, SupportsIndex, Union, final
+from typing import TYPE_CHECKING, BinaryIO, Callable, Iterable, List, NoReturn, Optional, Sequence, SupportsIndex, Union, final
 
-from ._checked_parts import CheckedParts, checked_places, done, joined
+from ._checked_parts import CheckedParts, Found, are_all, checked_places, done, joined
 from ._errors import InvalidArguments, but_got
 from ._guard import Guarded
 from ._hash import Hash, HashLike, checked_u64, whole_number
-from ._lent import bytes_of
 from ._range_proof import PROOF_LIMIT, RangeProof
 from ._read_ahead import ReadAhead
 from ._types import BytesLike, Room
@@ -42,7 +41,8 @@ class VerifiedFile(CheckedParts, _Raw):  # type: ignore[misc]
 
     - The size of the file is known once something was checked. So seeking from the end may fetch the first chunk. So does a read for
       which `prove` raises an error: if it turns out to begin at or after the end, it returns no bytes, else it raises that error.
-    - What was used last is kept, at most `cache_size` bytes of it, so that a reader of small pieces fetches each chunk once.
+    - What was used last is kept, at most `cache_size` bytes of it, so that a reader of small pieces fetches each chunk once. A chunk
+      counts 128 bytes more than it has.
     - Each read that isn't kept costs two requests, whatever its length. So over a network read a megabyte or more at once, let
       `io.BufferedReader(file, 1 << 20)` do so for a reader of small pieces or of lines, or give `read_ahead`.
     - With `read_ahead`, a read that begins where the last one ended has up to so many bytes after it fetched and checked meanwhile,
@@ -164,7 +164,7 @@ class VerifiedFile(CheckedParts, _Raw):  # type: ignore[misc]
         count = -1 if size is None else whole_number(size, "size")
         with self._guarded._locked():
             self._check_open()
-            return joined(self._next(self.size - self._position if count < 0 else count))
+            return joined(self._next(max(self.size - self._position, 0) if count < 0 else count))
 
     def readall(self) -> bytes:
         """Returns all bytes up to the end.
@@ -198,23 +198,21 @@ class VerifiedFile(CheckedParts, _Raw):  # type: ignore[misc]
                     filled += len(part)
                 return filled
 
-    def _next(self, count: int) -> List[memoryview]:
+    def _next(self, count: int) -> Sequence[Union[bytes, memoryview]]:
         """Returns the next `count` bytes in parts, fewer only at the end, and moves the position behind them."""
         position = self._position
-        parts = self._parts_from(position, count)
+        found = self._kept(position, count)
+        parts = found[:1] if are_all(found, position, count) else self._parts_from(position, count, found)
         self._position = self._after_last = position + sum(map(len, parts))
         return parts
 
-    def _parts_from(self, position: int, count: int) -> List[memoryview]:
-        """Returns bytes in parts: what is kept, what was read ahead, or what is fetched now."""
-        kept = self._at_once(position, count)
-        if kept is not None:
-            return [kept]
-        if self._ahead is None or self._size is None:
-            return done(self._parts(position, count))
+    def _parts_from(self, position: int, count: int, found: Found) -> List[memoryview]:
+        """Returns bytes in parts: what was read ahead, or else what was found of them and what is fetched now."""
+        if self._ahead is None or self._size is None or self._is_in_use():
+            return done(self._parts(position, count, found))
         if position != self._after_last:
             self._ahead.forget()
-            return done(self._parts(position, count))
+            return done(self._parts(position, count, found))
         return self._ahead.parts(self._read_piece, position, min(count, self._size - position), self._size)
 
     def _read_piece(self, start: int, stop: int) -> memoryview:
@@ -234,8 +232,8 @@ class VerifiedFile(CheckedParts, _Raw):  # type: ignore[misc]
         """
         begin, end = checked_places(start, stop)
         self._check_open()
-        kept = self._at_once(begin, end - begin)
-        return bytes_of(kept) if kept is not None else joined(done(self._parts(begin, end - begin)))
+        found = self._kept(begin, end - begin)
+        return found[0] if are_all(found, begin, end - begin) else joined(done(self._parts(begin, end - begin, found)))
 
     # ---- What it can't do
 
