@@ -57,7 +57,7 @@ fn levels() -> Result<Vec<String>, String> {
     let levels = lines.filter(|words| words[1] == arch).map(|words| words[0]);
     // The assembly for Windows and macOS has the same levels.
     let is_for_windows = kind == ["windows", "64", "little"] && arch == "x86_64" && of_target("ENV") == "gnu";
-    let is_for_macos = kind == ["macos", "64", "little"] && arch == "x86_64";
+    let is_for_macos = kind == ["macos", "64", "little"];
     let prefix = match (is_for_windows, is_for_macos) {
         (true, _) => "windows-",
         (_, true) => "macos-",
@@ -67,7 +67,7 @@ fn levels() -> Result<Vec<String>, String> {
     if names.is_empty() || !(is_for_windows || is_for_macos || kind == ["linux", "64", "little"]) {
         let target = env::var("TARGET").unwrap_or_default();
         return Err(format!(
-            "the library is for Linux on x86_64 and aarch64, for x86_64-apple-darwin and for x86_64-pc-windows-gnu, \
+            "the library is for Linux and macOS on x86_64 and aarch64, and for x86_64-pc-windows-gnu, \
              not for {target}; depend on it for these targets alone, and on xet-core-structures for others"
         ));
     }

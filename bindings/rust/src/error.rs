@@ -37,7 +37,7 @@ pub enum CoreError {
     SizeOverflow,
     /// An allocation failed.
     OutOfMemory,
-    /// A text isn't JSON.
+    /// A text isn't JSON. For a session, it may also have a member twice in one object.
     InvalidText,
     /// A JSON value doesn't describe a subtree. The number is the lowest rule, from 1 to 13, that the value breaks.
     /// [`from_json`](crate::merklehash::MerkleHashSubtree::from_json) lists the rules.
@@ -45,9 +45,12 @@ pub enum CoreError {
     /// Rule 9 is broken by some subtrees that `xet-core-structures` saves after it has merged a range that
     /// is marked at its start with the next one. Make such a subtree anew from the list of its chunks.
     InvalidJson(u8),
-    /// A JSON value, or flat lists, don't describe a range proof. The number is the lowest rule, from 1 to 8, that they
+    /// A JSON value, flat lists, or bytes don't describe a range proof. The number is the lowest rule, from 1 to 8, that they
     /// break. [`from_json`](crate::own::RangeProof::from_json) lists the rules.
     InvalidProof(u8),
+    /// A JSON value doesn't describe a session. The number is the lowest rule, from 1 to 7 but 5, that it breaks.
+    /// [`from_json`](crate::own::Session::from_json) lists the rules.
+    InvalidSession(u8),
 }
 
 impl CoreError {
@@ -79,6 +82,7 @@ impl fmt::Display for CoreError {
             CoreError::InvalidText => f.write_str("invalid text"),
             CoreError::InvalidJson(rule) => write!(f, "invalid JSON: {}", BrokenRule(*rule)),
             CoreError::InvalidProof(rule) => write!(f, "invalid range proof: {}", BrokenProofRule(*rule)),
+            CoreError::InvalidSession(rule) => write!(f, "invalid session: {}", BrokenSessionRule(*rule)),
         }
     }
 }
@@ -117,6 +121,18 @@ impl fmt::Display for BrokenProofRule {
     }
 }
 
+// The text of a rule of sessions that a value breaks.
+struct BrokenSessionRule(u8);
+
+impl fmt::Display for BrokenSessionRule {
+    fn fmt(&self, f: &mut fmt::Formatter<'_>) -> fmt::Result {
+        match self.0 {
+            1..=4 | 6..=7 => write!(f, "{}", StatusText::of(ffi::YUREWHA_SESSION_RULE + u32::from(self.0))),
+            other => write!(f, "rule {other}"),
+        }
+    }
+}
+
 impl Refusal for CoreError {
     fn of(status: ffi::yurewha_status) -> Option<Self> {
         match status {
@@ -137,7 +153,9 @@ fn broken_rule(status: ffi::yurewha_status) -> Option<CoreError> {
         rules.contains(&rule).then_some(rule)
     };
     let of_subtree = rule_from(ffi::YUREWHA_RULE, 1..=13).map(CoreError::InvalidJson);
-    of_subtree.or_else(|| rule_from(ffi::YUREWHA_PROOF_RULE, 1..=8).map(CoreError::InvalidProof))
+    let of_proof = rule_from(ffi::YUREWHA_PROOF_RULE, 1..=8).map(CoreError::InvalidProof);
+    let of_session = rule_from(ffi::YUREWHA_SESSION_RULE, 1..=7).map(CoreError::InvalidSession);
+    of_subtree.or(of_proof).or(of_session)
 }
 
 #[cfg(test)]
@@ -157,7 +175,11 @@ mod tests {
             let status = ffi::YUREWHA_PROOF_RULE + u32::from(rule);
             (status, CoreError::InvalidProof(rule))
         });
-        for (status, error) in errors.into_iter().chain(rules).chain(of_proofs) {
+        let of_sessions = [1, 2, 3, 4, 6, 7].map(|rule| {
+            let status = ffi::YUREWHA_SESSION_RULE + u32::from(rule);
+            (status, CoreError::InvalidSession(rule))
+        });
+        for (status, error) in errors.into_iter().chain(rules).chain(of_proofs).chain(of_sessions) {
             assert_eq!(CoreError::of(status), Some(error));
         }
     }
@@ -178,6 +200,14 @@ mod tests {
                 "{error}"
             );
         }
+        for rule in [1, 2, 3, 4, 6, 7] {
+            let error = CoreError::InvalidSession(rule).to_string();
+            assert!(error.starts_with(&format!("invalid session: rule {rule}: ")), "{error}");
+        }
+        for rule in [0, 5, 8] {
+            let error = CoreError::InvalidSession(rule).to_string();
+            assert_eq!(error, format!("invalid session: rule {rule}"));
+        }
         for rule in [0, 9] {
             let error = CoreError::InvalidProof(rule).to_string();
             assert_eq!(error, format!("invalid range proof: rule {rule}"));
@@ -196,6 +226,8 @@ mod tests {
             30,
             48,
             57,
+            64,
+            72,
             u32::MAX,
         ];
         for status in others

@@ -18,8 +18,11 @@ pub const YUREWHA_TEXT: yurewha_status = 4;
 pub const YUREWHA_ROOM: yurewha_status = 5;
 pub const YUREWHA_EMPTY_HANDLE: yurewha_status = 6;
 pub const YUREWHA_MISMATCH: yurewha_status = 7;
+pub const YUREWHA_ELSEWHERE: yurewha_status = 38;
+pub const YUREWHA_TOO_FAR: yurewha_status = 39;
 pub const YUREWHA_RULE: yurewha_status = 16;
 pub const YUREWHA_PROOF_RULE: yurewha_status = 48;
+pub const YUREWHA_SESSION_RULE: yurewha_status = 64;
 pub const YUREWHA_SESSION_OVERLAP: yurewha_status = 33;
 pub const YUREWHA_SESSION_POSITIONS: yurewha_status = 34;
 pub const YUREWHA_SESSION_GAP: yurewha_status = 37;
@@ -80,6 +83,16 @@ pub struct yurewha_opened_range {
     pub at: *mut u8,
 }
 
+#[repr(C)]
+pub struct yurewha_part {
+    pub at: *mut u8,
+}
+
+#[repr(C)]
+pub struct yurewha_reader {
+    pub at: *mut u8,
+}
+
 impl yurewha_hasher {
     // Room for one, which must be begun before use.
     pub const ROOM: Self = yurewha_hasher { state: [0; 256] };
@@ -113,6 +126,20 @@ impl Default for yurewha_opened_range {
     }
 }
 
+impl Default for yurewha_part {
+    // The empty handle.
+    fn default() -> Self {
+        yurewha_part { at: ptr::null_mut() }
+    }
+}
+
+impl Default for yurewha_reader {
+    // The empty handle.
+    fn default() -> Self {
+        yurewha_reader { at: ptr::null_mut() }
+    }
+}
+
 const fn assert_layout<T>(size: usize, align: usize) {
     assert!(size_of::<T>() == size && align_of::<T>() == align);
 }
@@ -128,6 +155,8 @@ const _: () = {
     assert_layout::<yurewha_session>(8, 8);
     assert_layout::<yurewha_hash_tree>(8, 8);
     assert_layout::<yurewha_opened_range>(8, 8);
+    assert_layout::<yurewha_part>(8, 8);
+    assert_layout::<yurewha_reader>(8, 8);
 };
 
 extern "C" {
@@ -318,6 +347,19 @@ extern "C" {
         hashes: *mut yurewha_hash,
         count: usize,
     ) -> yurewha_status;
+    pub fn yurewha_session_to_json(
+        session: *mut yurewha_session,
+        with_hashes: bool,
+        text: *mut c_char,
+        room: usize,
+        length: *mut usize,
+    ) -> yurewha_status;
+    pub fn yurewha_session_from_json(
+        text: *const c_char,
+        length: usize,
+        keep_hashes: bool,
+        session: *mut yurewha_session,
+    ) -> yurewha_status;
     pub fn yurewha_hash_tree_from_chunks(
         chunks: *const yurewha_chunk,
         count: usize,
@@ -376,6 +418,25 @@ extern "C" {
         level_count: *mut usize,
         node_count: *mut usize,
     ) -> yurewha_status;
+    pub fn yurewha_range_proof_to_bytes(
+        levels: *const yurewha_level,
+        level_count: usize,
+        nodes: *const yurewha_chunk,
+        node_count: usize,
+        bytes: *mut u8,
+        byte_room: usize,
+        byte_count: *mut usize,
+    ) -> yurewha_status;
+    pub fn yurewha_range_proof_from_bytes(
+        bytes: *const u8,
+        length: usize,
+        levels: *mut yurewha_level,
+        level_room: usize,
+        nodes: *mut yurewha_chunk,
+        node_room: usize,
+        level_count: *mut usize,
+        node_count: *mut usize,
+    ) -> yurewha_status;
     pub fn yurewha_range_proof_check(
         levels: *const yurewha_level,
         level_count: usize,
@@ -423,6 +484,71 @@ extern "C" {
         start: *mut usize,
     ) -> yurewha_status;
     pub fn yurewha_opened_range_free(range: *mut yurewha_opened_range);
+    pub fn yurewha_reader_new(
+        file_hash: *const yurewha_hash,
+        salt: *const yurewha_bytes,
+        most: u64,
+        reader: *mut yurewha_reader,
+    ) -> yurewha_status;
+    pub fn yurewha_reader_read(
+        reader: *mut yurewha_reader,
+        from: u64,
+        bytes: *mut u8,
+        count: usize,
+        piece: u64,
+        filled: *mut usize,
+        end: *mut u64,
+    ) -> yurewha_status;
+    pub fn yurewha_reader_needs(
+        reader: *mut yurewha_reader,
+        from: u64,
+        to: u64,
+        piece: u64,
+        first: *mut u64,
+        end: *mut u64,
+    ) -> yurewha_status;
+    pub fn yurewha_reader_size(reader: *mut yurewha_reader, size: *mut u64) -> yurewha_status;
+    pub fn yurewha_reader_counted(reader: *mut yurewha_reader, counted: *mut u64) -> yurewha_status;
+    pub fn yurewha_reader_keep_at_most(reader: *mut yurewha_reader, most: u64) -> yurewha_status;
+    pub fn yurewha_reader_take(reader: *mut yurewha_reader, part: *mut yurewha_part) -> yurewha_status;
+    pub fn yurewha_part_open(
+        levels: *const yurewha_level,
+        level_count: usize,
+        nodes: *const yurewha_chunk,
+        node_count: usize,
+        file_hash: *const yurewha_hash,
+        salt: *const yurewha_bytes,
+        from: u64,
+        to: u64,
+        beyond: u64,
+        begin: *mut u64,
+        end: *mut u64,
+        part: *mut yurewha_part,
+    ) -> yurewha_status;
+    pub fn yurewha_part_open_json(
+        text: *const c_char,
+        length: usize,
+        file_hash: *const yurewha_hash,
+        salt: *const yurewha_bytes,
+        from: u64,
+        to: u64,
+        beyond: u64,
+        begin: *mut u64,
+        end: *mut u64,
+        part: *mut yurewha_part,
+    ) -> yurewha_status;
+    pub fn yurewha_part_check(
+        part: *mut yurewha_part,
+        data: *const u8,
+        length: usize,
+        keep: bool,
+        start: *mut usize,
+        count: *mut usize,
+    ) -> yurewha_status;
+    pub fn yurewha_part_file_size(part: *mut yurewha_part, size: *mut u64) -> yurewha_status;
+    pub fn yurewha_part_checked(part: *mut yurewha_part, chunks: *mut usize, place: *mut u64) -> yurewha_status;
+    pub fn yurewha_reader_free(reader: *mut yurewha_reader);
+    pub fn yurewha_part_free(part: *mut yurewha_part);
 }
 
 #[cfg(test)]

@@ -26,6 +26,14 @@ impl Handle for ffi::yurewha_opened_range {
     const FREE: unsafe extern "C" fn(*mut Self) = ffi::yurewha_opened_range_free;
 }
 
+impl Handle for ffi::yurewha_part {
+    const FREE: unsafe extern "C" fn(*mut Self) = ffi::yurewha_part_free;
+}
+
+impl Handle for ffi::yurewha_reader {
+    const FREE: unsafe extern "C" fn(*mut Self) = ffi::yurewha_reader_free;
+}
+
 // SAFETY: a handle is a pointer to memory of `malloc` that only one value owns. Nothing of the library is bound to a
 // thread, and any thread may call `free`.
 unsafe impl Send for ffi::yurewha_subtree {}
@@ -38,6 +46,12 @@ unsafe impl Send for ffi::yurewha_hash_tree {}
 
 // SAFETY: as above.
 unsafe impl Send for ffi::yurewha_opened_range {}
+
+// SAFETY: as above.
+unsafe impl Send for ffi::yurewha_part {}
+
+// SAFETY: as above.
+unsafe impl Send for ffi::yurewha_reader {}
 
 /// A handle with one owner, which frees it, to a value that calls change.
 ///

@@ -88,6 +88,7 @@ pub use crate::merklehash::data_hash::errors::HashTextError;
 pub use hasher::Hasher;
 pub use hex_text::{parse_hex, HexError};
 pub use range_proof::{HashTree, OpenError, OpenFault, OpenedRange, RangeProof};
+pub use range_proof::{OtherFile, PartFault, VerifiedReader, WantedPart};
 pub use reading::hash_chunks;
 pub use roots::{try_file_hash, try_file_hash_with_salt, try_xorb_hash};
 pub use session::{Session, SessionFault};

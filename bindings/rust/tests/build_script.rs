@@ -127,6 +127,7 @@ fn all_levels_of_the_targets_processor_are_compiled() {
         ("aarch64-unknown-linux-musl", &aarch64),
         ("x86_64-pc-windows-gnu", &windows),
         ("x86_64-apple-darwin", &macos),
+        ("aarch64-apple-darwin", &[&unproved[..], &["macos-aarch64.s"]].concat()),
     ] {
         let output = run(target, &[]);
         assert!(output.status.success(), "{output:?}");
@@ -153,14 +154,13 @@ fn a_target_without_assembly_is_refused() {
         "x86_64-pc-windows-msvc",
         "i686-pc-windows-gnu",
         "aarch64-pc-windows-gnullvm",
-        "aarch64-apple-darwin",
         "aarch64-apple-ios",
         "x86_64-linux-android",
     ] {
         let output = run(target, &[]);
         let said = String::from_utf8(output.stderr.clone()).unwrap();
         let wanted = format!(
-            "yurewha: the library is for Linux on x86_64 and aarch64, for x86_64-apple-darwin and for x86_64-pc-windows-gnu, \
+            "yurewha: the library is for Linux and macOS on x86_64 and aarch64, and for x86_64-pc-windows-gnu, \
              not for {target}; depend on it for these targets alone, and on xet-core-structures for others\n"
         );
         assert!(!output.status.success() && compiled(&output).is_empty(), "{target}");

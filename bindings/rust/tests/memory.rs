@@ -22,7 +22,8 @@ use yurewha::merklehash::{
 };
 use yurewha::own::{
     self, try_file_hash, try_file_hash_with_salt, try_find_stable_end, try_find_stable_start, try_xorb_hash,
-    HashTextError, HashTree, Node, OpenError, OpenFault, OpenedRange, RangeProof, Session, SessionFault,
+    HashTextError, HashTree, Node, OpenError, OpenFault, OpenedRange, PartFault, RangeProof, Session, SessionFault,
+    VerifiedReader,
 };
 
 extern "C" {
@@ -253,6 +254,9 @@ fn range_proofs_are_refused() {
     let text = proof.to_json().unwrap();
     assert_each_refusal(NO_MEMORY, || RangeProof::from_json(&text));
     assert_eq!(RangeProof::from_json(&text).as_ref(), Ok(&proof));
+    assert_each_refusal(NO_MEMORY, || proof.to_bytes());
+    let bytes = proof.to_bytes().unwrap();
+    assert_each_refusal(NO_MEMORY, || RangeProof::from_bytes(&bytes));
     // The proof comes back, so that it can be tried again.
     type Open = fn(RangeProof, &DataHash) -> Result<OpenedRange, OpenError>;
     let calls: [(Open, DataHash); 2] = [
@@ -277,6 +281,35 @@ fn range_proofs_are_refused() {
             }
         }
     }
+}
+
+// Where there is no memory, a chunk isn't kept. That is no error, since the reader is asked again.
+#[test]
+fn readers_are_refused() {
+    let data = [&b"a chunk"[..], b"another", b"and a third"];
+    let tree = HashTree::from_chunks(&data.map(|data| (compute_data_hash(data), data.len() as u64))).unwrap();
+    let (hash, proof) = (tree.file_hash(), tree.proof(1..3).unwrap());
+    assert_each_refusal(NO_MEMORY, || VerifiedReader::new(&hash, 1 << 20));
+    let reader = VerifiedReader::new(&hash, 1 << 20).unwrap();
+    assert_each_refusal(PartFault::OutOfMemory, || reader.open(&proof, 8..16, 1 << 20));
+    let mut sums = Vec::new();
+    for before in 0.. {
+        let reader = VerifiedReader::new(&hash, 1 << 20).unwrap();
+        let mut part = reader.open(&proof, 8..16, 1 << 20).unwrap();
+        let (kept, refused) = with_refusal(before, || {
+            assert_eq!(part.check(b"anotherand a third"), Some(&b"notheran"[..]));
+            reader.take(part).unwrap();
+            reader.counted()
+        });
+        sums.push(kept);
+        if !refused {
+            break;
+        }
+    }
+    assert_eq!(sums.pop(), Some(18 + 2 * 128));
+    // Each refusal loses one chunk.
+    assert!(sums.iter().all(|kept| [7 + 128, 11 + 128].contains(kept)), "{sums:?}");
+    assert!(sums.len() > 3, "{sums:?}");
 }
 
 #[cfg(feature = "serde")]
@@ -380,6 +413,9 @@ fn sessions_are_refused() {
     assert_each_refusal(NO_MEMORY, || session.try_clone());
     assert_each_refusal(NO_MEMORY, || session.gaps(60));
     assert_each_refusal(NO_MEMORY, || session.known_hashes());
+    assert_each_refusal(NO_MEMORY, || session.to_json());
+    let text = session.to_json().unwrap();
+    assert_each_refusal(NO_MEMORY, || Session::from_json(&text));
     let (positions, range) = session.run_from(0).unwrap();
     let mut restored = Session::new();
     refuse_each(|| restored.push_run(positions.clone(), &range));
@@ -446,6 +482,14 @@ fn a_value_that_is_dropped_frees_its_memory() {
         assert!(proof.clone().open_root(&DataHash::marker()).is_err());
         assert_eq!(proof.open_root(&tree.root()).unwrap().clone().num_chunks(), 2);
         assert_eq!(session.finish(60), Ok(file_hash(&nodes)));
+        assert!(Session::from_json(&session.to_json().unwrap()).unwrap() == session);
+        let reader = VerifiedReader::new(&tree.file_hash(), 1 << 20).unwrap();
+        let mut part = reader.open(&tree.proof(7..9).unwrap(), 7..9, 0).unwrap();
+        assert!(part.check(b"??").is_none() && reader.take(part).is_ok());
+        assert!(VerifiedReader::new(&DataHash::marker(), 0)
+            .unwrap()
+            .take(reader.open(&tree.proof(7..9).unwrap(), 7..9, 0).unwrap())
+            .is_err());
     });
     assert_eq!(left, 0);
     let kept = blocks_left(|| std::mem::forget(MerkleHashSubtree::from_chunks(true, &nodes, false)));
@@ -567,6 +611,8 @@ fn other_calls_take_no_memory() {
         .open(&file_hash(&chunks))
         .unwrap();
     let text = DataHash::marker().hex();
+    let reader = VerifiedReader::new(&file_hash(&chunks), 1 << 20).unwrap();
+    let mut part = reader.open(range.proof(), 8..10, 1 << 20).unwrap();
     let taken = requests(|| {
         let hash = DataHash::random_from_seed(1);
         let bytes: [u8; 32] = hash.into();
@@ -590,6 +636,9 @@ fn other_calls_take_no_memory() {
         assert!(range.begins(0) == Some(7) && range.ends(0) == Some(14) && range.file_size() == 25);
         assert!(range.check(0, b"another") == Some(7) && range.check(0, b"a chunk").is_none());
         assert!(range.read(8..10, b"another").is_some() && range.num_chunks() == 1 && range.proof().num_levels() == 1);
+        assert!(part.check_only(b"another").is_some() && part.checked() == (1, 14) && part.file_size() == 25);
+        assert!(reader.needs(8..10, 1) == Some(8..9) && reader.size().is_none() && reader.counted() == 0);
+        reader.keep_at_most(1 << 21);
     });
     assert_eq!(taken, 0);
 }

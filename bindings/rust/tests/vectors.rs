@@ -89,8 +89,7 @@ fn session_call(name: &str, a: &Arguments) -> Answer {
     match name {
         "session_new" => return made(Session::new()),
         "session_new_without_hashes" => return made(Session::without_hashes()),
-        #[cfg(feature = "serde")]
-        "session_from_json" => return made(forms::session_from_json(a.text(0))?),
+        "session_from_json" => return made(read(a.text(0), Session::from_json(a.text(0)))?),
         _ => (),
     }
     let session = a.of::<Session>(0);
@@ -127,8 +126,7 @@ fn session_call(name: &str, a: &Arguments) -> Answer {
         "session_known_hashes" => is(hexes(&sorted(session.known_hashes()?))),
         "session_knows" => is(session.knows(&a.hash(1))),
         "session_knows_each" => is(a.hashes(1).iter().map(|hash| session.knows(hash)).collect::<Value>()),
-        #[cfg(feature = "serde")]
-        "session_to_json" => is(forms::session_to_json(&session)),
+        "session_to_json" => is(written(&session, session.to_json()?)),
         _ => panic!("the call {name}"),
     }
 }
@@ -153,6 +151,8 @@ fn proof_call(name: &str, a: &Arguments) -> Answer {
         "range_proof_nodes" => is(lines(&proof())),
         "range_proof_to_json" => is(proof().to_json()?),
         "range_proof_from_json" => made(RangeProof::from_json(a.text(0))?),
+        "range_proof_to_bytes" => is(hex_of(&proof().to_bytes()?)),
+        "range_proof_from_bytes" => made(RangeProof::from_bytes(&a.data(0))?),
         "range_proof_from_flat" => made(from_flat(&a.levels(0), &a.chunks(1))?),
         "range_proof_open" => opened(&proof(), |proof| proof.open_with_salt(&a.hash(1), &a.bytes(2))),
         "range_proof_open_root" => opened(&proof(), |proof| proof.open_root(&a.hash(1))),
@@ -174,10 +174,9 @@ fn proof_call(name: &str, a: &Arguments) -> Answer {
 
 // Calls of the library that the crate doesn't have.
 const ABSENT: &[&str] = &["data_hashes", "subtree_nodes", "subtree_from_flat", "session_next_gap"];
-const WITHOUT_SERDE: &[&str] = &["session_to_json", "session_from_json"];
 
 fn is_absent(name: &str) -> bool {
-    ABSENT.contains(&name) || !cfg!(feature = "serde") && WITHOUT_SERDE.contains(&name)
+    ABSENT.contains(&name)
 }
 
 // A refusal does nothing to the proof, which the error has.
@@ -242,7 +241,26 @@ fn sorted(mut hashes: Vec<DataHash>) -> Vec<DataHash> {
     hashes
 }
 
-// The JSON of a session is that of serde, whose errors are texts.
+// The JSON of a session, which serde writes, too, with the members in another order.
+fn written(_session: &Session, text: String) -> String {
+    #[cfg(feature = "serde")]
+    assert_eq!(forms::session_to_json(_session), text);
+    text
+}
+
+// A session that was read from JSON. Serde reads the same. Where several things are wrong, its errors are of another one.
+fn read(_text: &str, found: Result<Session, CoreError>) -> Result<Session, Refused> {
+    #[cfg(feature = "serde")]
+    assert_eq!(forms::session_from_json(_text).ok(), found.as_ref().ok().cloned());
+    found.map_err(|error| match error {
+        CoreError::InvalidSession(6) => Refused("ARGUMENTS", None),
+        CoreError::InvalidSession(7) => Refused("SIZES", None),
+        CoreError::InvalidSession(_) => Refused("TEXT", None),
+        error => error.into(),
+    })
+}
+
+// The JSON of a session by serde, whose errors are texts.
 #[cfg(feature = "serde")]
 mod forms {
     use super::{Refused, Session, Value};

@@ -17,14 +17,20 @@ use std::ptr;
 mod forms;
 mod hash_tree;
 mod opened_range;
+mod verified_reader;
+mod wanted_part;
 
 pub use hash_tree::HashTree;
 pub use opened_range::OpenedRange;
 use opened_range::Shown;
+pub use verified_reader::{OtherFile, VerifiedReader};
+pub use wanted_part::{PartFault, WantedPart};
 
 // The most levels of a proof, and the most nodes on their sides.
 const MOST_LEVELS: usize = 64;
 const MOST_BESIDE: usize = 2 * 8 * MOST_LEVELS;
+// The number of bytes of a node in the binary form.
+const NODE_LENGTH: usize = 40;
 
 /// The nodes of some adjacent chunks of a file, and the other nodes of each group on the way up to the root.
 ///
@@ -409,6 +415,90 @@ impl RangeProof {
             ffi::yurewha_range_proof_from_json(
                 text.as_ptr().cast(),
                 text.len(),
+                levels,
+                level_room,
+                nodes,
+                node_room,
+                level_count,
+                node_count,
+            )
+        })?;
+        rooms.proof(counts)
+    }
+
+    /// Returns the proof in its binary form: a byte with the number of levels; for each level, from the chunks up, two bytes
+    /// with the numbers of its left and right nodes; and all nodes in the order of the file, each with the 32 bytes of its
+    /// hash and the 8 of its size, little-endian. Python and JavaScript read and write it, too.
+    ///
+    /// ```
+    /// use yurewha::merklehash::MerkleHash;
+    /// use yurewha::own::RangeProof;
+    ///
+    /// let bytes = RangeProof::from_chunks(&[(MerkleHash::marker(), 7)], 0..1)?.to_bytes()?;
+    /// assert_eq!(bytes, [&[0][..], &[0xff; 32], &[7, 0, 0, 0, 0, 0, 0, 0]].concat());
+    /// # Ok::<(), yurewha::error::CoreError>(())
+    /// ```
+    ///
+    /// # Errors
+    ///
+    /// [`OutOfMemory`](CoreError::OutOfMemory) if an allocation fails
+    pub fn to_bytes(&self) -> Result<Vec<u8>> {
+        let nodes = lend(&self.nodes)?;
+        let it = Lists::of(&self.levels, &nodes);
+        let mut bytes: Vec<u8> = zeros(1 + 2 * self.levels.len() + NODE_LENGTH * self.nodes.len())?;
+        let (room, room_length) = (bytes.as_mut_ptr(), bytes.len());
+        // SAFETY: levels and nodes of their numbers, a room with its length, and a length to write to.
+        let length = answer(|length| unsafe {
+            ffi::yurewha_range_proof_to_bytes(
+                it.levels,
+                it.level_count,
+                it.nodes,
+                it.node_count,
+                room,
+                room_length,
+                length,
+            )
+        })?;
+        bytes.truncate(length);
+        Ok(bytes)
+    }
+
+    /// Reads a proof from its binary form, which [`to_bytes`](Self::to_bytes) returns.
+    ///
+    /// Time and memory are in proportion to the bytes, so refuse more than 2^23 bytes from a stranger, or another limit,
+    /// before this call: that many are enough for about 200,000 chunks.
+    ///
+    /// ```
+    /// use yurewha::error::CoreError;
+    /// use yurewha::merklehash::MerkleHash;
+    /// use yurewha::own::RangeProof;
+    ///
+    /// let proof = RangeProof::from_chunks(&[1, 2, 3].map(|seed| (MerkleHash::random_from_seed(seed), 100)), 1..2)?;
+    /// assert_eq!(RangeProof::from_bytes(&proof.to_bytes()?)?, proof);
+    /// assert_eq!(RangeProof::from_bytes(&[0, 1, 2]), Err(CoreError::InvalidProof(4)));
+    /// # Ok::<(), CoreError>(())
+    /// ```
+    ///
+    /// # Errors
+    ///
+    /// [`OutOfMemory`] if an allocation fails, or [`InvalidProof`] with the lowest rule that the bytes break. It is one of
+    /// these, or of those from 5 to 8 of [`from_json`](Self::from_json):
+    ///
+    /// - 1: There is a first byte.
+    /// - 3: Two bytes follow for each level.
+    /// - 4: Whole nodes follow, of 40 bytes each.
+    ///
+    /// [`OutOfMemory`]: CoreError::OutOfMemory
+    /// [`InvalidProof`]: CoreError::InvalidProof
+    pub fn from_bytes(bytes: &[u8]) -> Result<Self> {
+        let mut rooms = Rooms::of(bytes.len() / NODE_LENGTH)?;
+        let (levels, level_room) = (rooms.levels.as_mut_ptr(), rooms.levels.len());
+        let (nodes, node_room) = (rooms.nodes.as_mut_ptr(), rooms.nodes.len());
+        // SAFETY: bytes of their number, two rooms with their lengths, and two numbers to write to.
+        let counts = answer(|(level_count, node_count)| unsafe {
+            ffi::yurewha_range_proof_from_bytes(
+                bytes.as_ptr(),
+                bytes.len(),
                 levels,
                 level_room,
                 nodes,

@@ -41,6 +41,7 @@ fn a_long_proof_goes_through_each_form() {
         (&nodes[1..MANY - 1], &nodes[..1], nodes.last())
     );
     assert_eq!(RangeProof::from_json(&proof.to_json().unwrap()).as_ref(), Ok(&proof));
+    assert_eq!(RangeProof::from_bytes(&proof.to_bytes().unwrap()).as_ref(), Ok(&proof));
     #[cfg(feature = "serde")]
     {
         let bytes = bincode::serialize(&proof).unwrap();

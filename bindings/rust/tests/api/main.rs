@@ -28,3 +28,4 @@ mod session_forms;
 mod sessions;
 mod subtrees;
 mod threads;
+mod verified_readers;

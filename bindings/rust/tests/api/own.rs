@@ -36,6 +36,20 @@ fn own_items_have_their_signatures() {
     let _: [for<'p> fn(&'p own::RangeProof, usize) -> Pairs<'p>; 2] = [own::RangeProof::left, own::RangeProof::right];
     let _: fn(&own::RangeProof) -> Result<String> = own::RangeProof::to_json;
     let _: fn(&str) -> Result<own::RangeProof> = own::RangeProof::from_json;
+    let _: fn(&own::RangeProof) -> Result<Vec<u8>> = own::RangeProof::to_bytes;
+    let _: fn(&[u8]) -> Result<own::RangeProof> = own::RangeProof::from_bytes;
+    let _: fn(&own::Session) -> Result<String> = own::Session::to_json;
+    let _: [fn(&str) -> Result<own::Session>; 2] = [own::Session::from_json, own::Session::from_json_without_hashes];
+    let _: fn(&MerkleHash, u64) -> Result<own::VerifiedReader> = own::VerifiedReader::new;
+    let _: fn(&MerkleHash, &[u8; 32], u64) -> Result<own::VerifiedReader> = own::VerifiedReader::with_salt;
+    let _: fn(&own::VerifiedReader, u64, &mut [u8]) -> usize = own::VerifiedReader::read;
+    let _: fn(&own::VerifiedReader, Range<u64>, u64) -> Option<Range<u64>> = own::VerifiedReader::needs;
+    type Part = std::result::Result<own::WantedPart, own::PartFault>;
+    let _: fn(&own::VerifiedReader, &own::RangeProof, Range<u64>, u64) -> Part = own::VerifiedReader::open;
+    type Taken = std::result::Result<(), own::OtherFile>;
+    let _: fn(&own::VerifiedReader, own::WantedPart) -> Taken = own::VerifiedReader::take;
+    type Wanted = for<'d> fn(&mut own::WantedPart, &'d [u8]) -> Option<&'d [u8]>;
+    let _: [Wanted; 2] = [own::WantedPart::check, own::WantedPart::check_only];
     let _: [fn(&own::OpenedRange, usize) -> Option<u64>; 2] = [own::OpenedRange::begins, own::OpenedRange::ends];
     let _: fn(&own::OpenedRange, usize, &[u8]) -> Option<u64> = own::OpenedRange::check;
     type Read = for<'d> fn(&own::OpenedRange, Range<u64>, &'d [u8]) -> Option<&'d [u8]>;
@@ -60,6 +74,7 @@ fn errors_and_subtrees_can_be_compared() {
     error::<own::HexError>();
     error::<own::SessionFault>();
     error::<own::OpenFault>();
+    error::<own::PartFault>();
     fn error_with_a_proof<T: std::error::Error + PartialEq + Send + Sync + 'static>() {}
     error_with_a_proof::<own::OpenError>();
     error::<merklehash::DataHashHexParseError>();
@@ -93,7 +108,7 @@ fn errors_may_get_more_variants() {
     let _ = |error: CoreError| match error {
         CoreError::InvalidArguments | CoreError::SizeOverflow | CoreError::OutOfMemory => 1,
         CoreError::InvalidText | CoreError::InvalidJson(_) => 2,
-        CoreError::InvalidProof(_) => 3,
+        CoreError::InvalidProof(_) | CoreError::InvalidSession(_) => 3,
         _ => 4,
     };
     let _ = |error: own::HashTextError| match error {
@@ -112,6 +127,11 @@ fn errors_may_get_more_variants() {
     let _ = |fault: own::OpenFault| match fault {
         own::OpenFault::ProofMismatch | own::OpenFault::OutOfMemory => 1,
         _ => 2,
+    };
+    let _ = |fault: own::PartFault| match fault {
+        own::PartFault::ProofMismatch | own::PartFault::OutOfMemory => 1,
+        own::PartFault::Elsewhere(_) | own::PartFault::TooFar(_) => 2,
+        _ => 3,
     };
 }
 
@@ -151,6 +171,7 @@ mod of_the_user {
     }
     unit_structs!(Node Session SessionFault Hasher HashTextError CoreError Result Owned);
     unit_structs!(HashTree RangeProof OpenedRange OpenError OpenFault HexError);
+    unit_structs!(VerifiedReader WantedPart PartFault OtherFile);
     pub fn parse_hex() {}
     pub fn hash_chunks() {}
     pub fn try_xorb_hash() {}
@@ -242,6 +263,7 @@ mod through_globs {
             Owned,
         );
         let _ = (HashTree, RangeProof, OpenedRange, OpenError, OpenFault);
+        let _ = (VerifiedReader, WantedPart, PartFault, OtherFile);
         try_xorb_hash();
         try_file_hash();
         try_file_hash_with_salt();

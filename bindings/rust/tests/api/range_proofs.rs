@@ -623,3 +623,28 @@ fn no_number_is_cut_to_32_bits() {
         );
     }
 }
+
+#[test]
+fn bytes_of_no_proof_are_refused_by_the_lowest_rule() {
+    let proof = RangeProof::from_chunks(&reference(&[1, 2, 3]), 1..2).unwrap();
+    let bytes = proof.to_bytes().unwrap();
+    assert_eq!((bytes.len(), &bytes[..3]), (1 + 2 + 3 * 40, &[1, 1, 1][..]));
+    assert_eq!(RangeProof::from_bytes(&bytes).as_ref(), Ok(&proof));
+    let nodes = |count: usize| vec![0; 40 * count];
+    for (rule, refused) in [
+        (1, vec![]),
+        (3, bytes[..2].to_vec()),
+        (4, bytes[..bytes.len() - 1].to_vec()),
+        (5, vec![0]),
+        (5, [&[1, 1, 0][..], &nodes(1)].concat()),
+        (6, [&[65][..], &[0; 130], &nodes(1)].concat()),
+        (7, [&[1, 9, 0][..], &nodes(10)].concat()),
+        (8, [&[0][..], &[255; 80]].concat()),
+    ] {
+        assert_eq!(
+            RangeProof::from_bytes(&refused),
+            Err(CoreError::InvalidProof(rule)),
+            "{rule}"
+        );
+    }
+}

@@ -1,6 +1,6 @@
 //! Sessions that are saved and restored by their runs and the hashes that they know.
 
-use crate::draws::{reference, Draws};
+use crate::draws::{reference, with_cuts, Draws};
 use std::collections::HashSet;
 use std::ops::Range;
 use yurewha::error::CoreError;
@@ -57,6 +57,85 @@ pub fn assert_restored(session: &Session, mut restored: Session, draws: &mut Dra
     let total = session.run_from(0).unwrap().0.end;
     assert_eq!(restored.finish(total), session.finish(total));
     assert!(restored.finish(total).is_ok());
+}
+
+#[test]
+fn drawn_sessions_are_read_back_from_json() {
+    let mut draws = Draws(19);
+    for _ in 0..60 {
+        let session = drawn_session(&mut draws);
+        let text = session.to_json().unwrap();
+        let restored = Session::from_json(&text).unwrap();
+        assert_eq!(restored.to_json().as_deref(), Ok(&*text));
+        assert_restored(&session, restored, &mut draws);
+        let without = Session::from_json_without_hashes(&text).unwrap();
+        assert!(!without.keeps_hashes() && known(&without).is_empty());
+        assert!(without.runs().eq(session.runs()));
+    }
+}
+
+// Its text has more room than a run has by default.
+#[test]
+fn a_run_of_many_nodes_is_read_back_from_json() {
+    let mut session = Session::new();
+    session
+        .push_run(
+            3..4003,
+            &MerkleHashSubtree::from_chunks(false, &with_cuts(4000, &[]), false),
+        )
+        .unwrap();
+    let text = session.to_json().unwrap();
+    assert!(text.len() > 100_000 && Session::from_json(&text).unwrap() == session);
+}
+
+#[test]
+fn json_of_no_session_is_refused_by_the_lowest_rule() {
+    let of = |runs: &str| format!(r#"{{"runs":[{runs}],"known_hashes":[]}}"#);
+    let run = |first: u64, end: u64, chunks: &str| format!(r#"{{"first":{first},"end":{end},"chunks":{chunks}}}"#);
+    let [range, marked] = [false, true].map(|mark| {
+        let subtree = MerkleHashSubtree::from_chunks(mark, &reference(&[1]), false);
+        subtree.to_json().unwrap()
+    });
+    let great = MerkleHashSubtree::from_chunks(false, &[(MerkleHash::default(), u64::MAX)], false);
+    let great = great.to_json().unwrap();
+    for (text, error) in [
+        ("nope".to_owned(), CoreError::InvalidText),
+        (
+            r#"{"runs":[],"known_hashes":[],"known_hashes":[]}"#.to_owned(),
+            CoreError::InvalidText,
+        ),
+        ("[]".to_owned(), CoreError::InvalidSession(1)),
+        (r#"{"runs":[]}"#.to_owned(), CoreError::InvalidSession(2)),
+        (of("{}"), CoreError::InvalidSession(3)),
+        (
+            r#"{"runs":[],"known_hashes":[[1,2,3]]}"#.to_owned(),
+            CoreError::InvalidSession(4),
+        ),
+        (of(&run(0, 1, "[]")), CoreError::InvalidJson(1)),
+        (of(&run(0, 1, &marked)), CoreError::InvalidSession(6)),
+        (
+            of(&[run(0, 1, &range), run(2, 3, &great)].join(",")),
+            CoreError::InvalidSession(7),
+        ),
+        (
+            of(&[run(0, 0, &range), run(2, 3, "[]")].join(",")),
+            CoreError::InvalidJson(1),
+        ),
+        (
+            of(&[run(0, 0, &range), run(2, 3, "[]"), "7".to_owned()].join(",")),
+            CoreError::InvalidSession(3),
+        ),
+    ] {
+        assert_eq!(Session::from_json(&text), Err(error), "{text}");
+        assert_eq!(Session::from_json_without_hashes(&text), Err(error), "{text}");
+    }
+}
+
+#[test]
+fn the_rule_of_a_session_is_told() {
+    let refused = Session::from_json(r#"{"runs":[],"known_hashes":7}"#).unwrap_err();
+    let text = "invalid session: rule 2: the runs or known hashes aren't an array";
+    assert_eq!(refused.to_string(), text);
 }
 
 #[test]

@@ -10,7 +10,7 @@ use std::thread;
 use yurewha::merklehash::{
     compute_data_hash, file_hash, xorb_hash, DataHash, HashedWrite, MerkleHashSubtree, PassThroughHashMap,
 };
-use yurewha::own::{self, HashTree, OpenedRange, RangeProof, Session, SessionFault};
+use yurewha::own::{self, HashTree, OpenedRange, RangeProof, Session, SessionFault, VerifiedReader, WantedPart};
 
 const fn assert_send_and_sync<T: Send + Sync>() {}
 
@@ -22,6 +22,8 @@ const _: () = {
     assert_send_and_sync::<HashTree>();
     assert_send_and_sync::<RangeProof>();
     assert_send_and_sync::<OpenedRange>();
+    assert_send_and_sync::<VerifiedReader>();
+    assert_send_and_sync::<WantedPart>();
     assert_send_and_sync::<DataHash>();
     assert_send_and_sync::<own::Hasher>();
     assert_unwind_safe::<MerkleHashSubtree>();
@@ -29,6 +31,8 @@ const _: () = {
     assert_unwind_safe::<HashTree>();
     assert_unwind_safe::<RangeProof>();
     assert_unwind_safe::<OpenedRange>();
+    assert_unwind_safe::<VerifiedReader>();
+    assert_unwind_safe::<WantedPart>();
 };
 
 // Ambiguous, and so no program, for a type that is `Send`.
