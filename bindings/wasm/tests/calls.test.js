@@ -241,7 +241,7 @@ test("an error of a broken rule names what broke it, and is a BrokenRule", () =>
         ["InvalidJson", 1, "rule 1: the value isn't an object", () => sessionOf("[]")],
         ["InvalidLists", 5, "rule 5: there is no level", () => y.Subtree.fromFlat(flat)],
         ["InvalidLists", 10, "rule 10: ", () => y.Subtree.fromFlat({ ...flat, levels: [[2, 0]], nodes: [[hash, 1], [hash, 1]] })],
-        ["InvalidProof", 1, "rule 1: the range proof isn't an object", () => y.RangeProof.fromJSON("[]")],
+        ["InvalidProof", 1, "rule 1: the range proof isn't an object, or has no byte", () => y.RangeProof.fromJSON("[]")],
         ["InvalidProof", 5, "rule 5: there is no chunk", () => y.RangeProof.fromFlat({ levels: [], nodes: [] })],
         ["InvalidProof", 5, "rule 5: there is no chunk", () => new y.RangeProof(new Uint8Array(1))],
     ];

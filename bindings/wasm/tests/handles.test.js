@@ -212,6 +212,28 @@ test("an object that nobody can reach is freed some time later", async () => {
     assert.equal(kept.numRuns, 0);
 });
 
+test("what is kept of a file that nobody can reach is freed, and so is a part whose data never comes", async () => {
+    const { yurewha: y, seen } = await counted();
+    const before = seen.blocks;
+    await (async () => {
+        const tree = y.HashTree.fromChunks([[y.dataHash(new Uint8Array(9)), 9]]);
+        const never = new Promise(() => {});
+        let stalls = false;
+        const fetch = () => (stalls ? never : new Uint8Array(9));
+        const file = await y.VerifiedBlob.open(tree.fileHash(), fetch, () => tree.proof(0, 1), { cacheSize: 0 });
+        stalls = true;
+        void file.slice(0, 3).bytes();
+        await setTimeout(5);
+        tree.free();
+        assert.equal(seen.blocks, before + 2);
+    })();
+    for (let k = 0; k < 50 && seen.blocks > before; k++) {
+        globalThis.gc();
+        await setTimeout(10);
+    }
+    assert.equal(seen.blocks, before);
+});
+
 test("after a trap nothing of the instance is called again", async () => {
     const TRAPS = {
         yurewha_data_hash: (y) => y.dataHash(new Uint8Array(3)),

@@ -251,6 +251,8 @@ test("a proof reads back from its forms, and tells its parts", () => {
     assert.ok(!one.equals(two));
     const { levels, nodes: [[hash, size], ...rest] } = one.toFlat();
     for (const first of [[hash, size + 1n], [new y.Hash(), size]]) assert.ok(!one.equals(y.RangeProof.fromFlat({ levels, nodes: [first, ...rest] })));
+    const [onLeft, onRight] = [[1, 0], [0, 1]].map((counts) => y.RangeProof.fromFlat({ levels: [counts], nodes: nodes(2) }));
+    assert.ok(!onLeft.equals(onRight));
     const bytes = one.bytes;
     const copied = new y.RangeProof(bytes);
     bytes.fill(0);

@@ -189,10 +189,9 @@ test("a session's text is read as it was, though it changes meanwhile", async ()
     const text = Buffer.from(before);
     const { yurewha } = await wrapped(BYTES, (exports) => ({
         ...exports,
-        yurewha_subtree_from_json: (...given) => {
-            const status = exports.yurewha_subtree_from_json(...given);
+        yurewha_session_from_json: (...given) => {
             text.fill(" ");
-            return status;
+            return exports.yurewha_session_from_json(...given);
         },
     }));
     assert.equal(yurewha.Session.fromJSON(text).toJSON(), before);
@@ -208,22 +207,28 @@ test("a session that an earlier version saved is read", () => {
     assert.equal(session.toJSON(), `{"runs":[{"first":4,"end":5,"chunks":${json}}],"known_hashes":[${words}]}`);
 });
 
-test("what a session's JSON lacks is named", () => {
-    const of = (run) => `{"runs":[${run}],"known_hashes":[]}`;
-    const table = {
-        "[]": "the JSON of a session must be an object with the member `runs`, got an array",
-        '{"runs":[]}': "the JSON of a session must be an object with the member `known_hashes`, got an object",
-        '{"runs":7,"known_hashes":[]}': "`runs` must be an array, got 7",
-        [of('{"first":1}')]: "run 0 must be an object with the member `end`, got an object",
-        [of('{"first":-1,"end":2,"chunks":0}')]: "`first` of run 0 must be a whole number from 0 to 2^64 - 1, got -1",
-        [of('{"first":1,"end":"2","chunks":0}')]: '`end` of run 0 must be a whole number from 0 to 2^64 - 1, got "2"',
-        '{"runs":[],"known_hashes":[[1,2,3]]}': "known hash 0 must be an array of four words, got an array",
-        '{"runs":[],"known_hashes":[[0,0,0,0],[1,2,3,18446744073709551616]]}':
-            "a word of known hash 1 must be a whole number from 0 to 2^64 - 1, got 18446744073709551616",
-        '{"runs":[],"known_hashes":[],"x":{"a":1,"a":1}}': 'each member of an object must occur once, got "a"',
-        "nope": 'the text must be JSON, got "nope"',
-    };
-    for (const [text, message] of Object.entries(table)) assert.throws(() => y.Session.fromJSON(text), new errors.InvalidText(message));
+test("the first rule that a session's JSON breaks is named", () => {
+    const of = (...runs) => `{"runs":[${runs}],"known_hashes":[]}`;
+    const run = (first, end, chunks) => `{"first":${first},"end":${end},"chunks":${chunks}}`;
+    const [range, marked] = [y.Subtree.fromChunks(false, list(1), false), y.Subtree.fromChunks(true, list(1), false)].map((it) => it.toJSON());
+    const great = y.Subtree.fromChunks(false, [[new y.Hash(), 2n ** 64n - 1n]], false).toJSON();
+    const strict = (got) => `the text must be JSON in which no object has a member twice, got ${got}`;
+    const table = [
+        ["nope", new errors.InvalidText(strict('"nope"'))],
+        ['{"runs":[],"known_hashes":[],"x":{"a":1,"a":1}}', new errors.InvalidText(strict('"{\\"runs\\":[],\\"known_hashes\\":[],\\"x\\":{\\"a\\":1,\\"a\\":1}}"'))],
+        ["[]", new errors.InvalidText("rule 1: the session isn't an object")],
+        ['{"runs":[]}', new errors.InvalidText("rule 2: the runs or known hashes aren't an array")],
+        [of('{"first":1}'), new errors.InvalidText("rule 3: a run isn't an object with two positions and chunks")],
+        [of(run(-1, 2, 0)), new errors.InvalidText("rule 3: a run isn't an object with two positions and chunks")],
+        ['{"runs":[],"known_hashes":[[1,2,3,18446744073709551616]]}', new errors.InvalidText("rule 4: a known hash isn't an array of four words")],
+        [of(run(0, 1, "[]")), new errors.InvalidJson(1, "rule 1: the value isn't an object")],
+        [of(run(0, 1, marked)), new errors.InvalidArguments("rule 6: a run has no position, a marked end, or no free position before it")],
+        [of(run(0, 1, range), run(2, 3, great)), new errors.SizeOverflow("rule 7: the sizes of all runs add up to more than 2^64 - 1")],
+        // Of several rules it is the lowest, wherever the runs stand.
+        [of(run(0, 0, range), run(2, 3, "[]"), "7"), new errors.InvalidText("rule 3: a run isn't an object with two positions and chunks")],
+        [of(run(0, 0, range), run(2, 3, "[]")), new errors.InvalidJson(1, "rule 1: the value isn't an object")],
+    ];
+    for (const [text, error] of table) assert.throws(() => y.Session.fromJSON(text), error, text);
 });
 
 test("Node's console shows what an object is", () => {

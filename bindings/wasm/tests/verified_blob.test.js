@@ -11,6 +11,7 @@ import { after, test } from "node:test";
 import { setTimeout } from "node:timers/promises";
 import { fileURLToPath } from "node:url";
 import { promisify } from "node:util";
+import { STATUS } from "../yurewha/errors.js";
 import * as errors from "../yurewha/index.js";
 import { BYTES, ROOT, chunksOf, dataOf, wrapped } from "./support.js";
 
@@ -229,7 +230,9 @@ test("a stream passes on the pieces before a lie, and none after it", async () =
         await assert.rejects(async () => {
             for await (const piece of verified.stream()) found.push(piece);
         }, /the range has|the connection is lost/);
-        assert.ok(Buffer.concat(found).equals(data.subarray(0, chunks[0].length + PIECE)));
+        // The last chunk of a piece is checked to its end, and kept.
+        const [, end] = tree.bytesOf(...tree.chunksAt(0, chunks[0].length + PIECE));
+        assert.ok(Buffer.concat(found).equals(data.subarray(0, Number(end))));
         await assert.rejects(verified.bytes());
     }
 });
@@ -306,6 +309,11 @@ test("what was read is the reader's own, and what was checked can't be changed a
     shared.fill(0);
     assert.equal(await verified.slice(0, 5).text(), data.subarray(0, 5).toString());
     assert.equal(first.buffer.byteLength, 5);
+    // A stream gives its memory away, so it has some of its own.
+    const sent = Uint8Array.from(bytesOf(30_001, 90_001));
+    const another = await open({}, (start, end) => (start === 30_001 ? sent : bytesOf(start, end)));
+    assert.equal(await another.slice(40_000, 40_010).text(), data.subarray(40_000, 40_010).toString());
+    assert.equal(sent.length, 60_000);
 });
 
 test("parts that were used last are kept, and no more than they may have", async () => {
@@ -319,14 +327,30 @@ test("parts that were used last are kept, and no more than they may have", async
     const without = await open({ cacheSize: 0 }, refetch);
     for (const place of [0, 0, 0]) await read(without, place);
     assert.equal(again.length, 4);
+    // Each chunk counts 128 bytes more, so ten of one byte fit here.
     const tiny = Array.from({ length: 100 }, () => Buffer.from("x"));
     const small = y.HashTree.fromChunks(tiny.map((it) => [y.dataHash(it), 1]));
     const [parts, part] = counted((start, end) => Buffer.alloc(end - start, "x"));
-    const ofTiny = await y.VerifiedBlob.open(small.fileHash(), part, (start, end) => small.proof(start, end));
-    for (let place = 0; place < 100; place++) assert.equal(await ofTiny.slice(place, place + 1).text(), "x");
-    const before = parts.length;
+    const prove = (start, end) => small.proof(start, end);
+    const ofTiny = await y.VerifiedBlob.open(small.fileHash(), part, prove, { cacheSize: 10 * (1 + 128) });
+    for (let place = 0; place < 11; place++) assert.equal(await ofTiny.slice(place, place + 1).text(), "x");
+    assert.equal(parts.length, 11);
+    for (const place of [1, 10]) await ofTiny.slice(place, place + 1).text();
+    assert.equal(parts.length, 11, "these are kept");
     await ofTiny.slice(0, 1).text();
-    assert.equal(parts.length, before + 1, "parts are limited in number too");
+    assert.equal(parts.length, 12, "and the first one isn't any more");
+});
+
+test("adjacent chunks that are kept are read at once, and no more is fetched than is missing", async () => {
+    const [calls, fetch] = counted(bytesOf);
+    const verified = await open({}, fetch);
+    await verified.slice(40_000, 100_000).bytes();
+    assert.deepEqual(calls, [[0, 30_000], [30_001, 110_001]]);
+    // Up to a byte that no chunk before has, all is kept but this one.
+    assert.ok(Buffer.from(await verified.slice(10, 110_000).bytes()).equals(data.subarray(10, 110_000)));
+    assert.deepEqual(calls.slice(2), [[30_000, 110_001]]);
+    assert.ok(Buffer.from(await verified.slice(10, 110_000).bytes()).equals(data.subarray(10, 110_000)));
+    assert.equal(calls.length, 3, "now each is kept");
 });
 
 test("a salted file and an empty file are read", async () => {
@@ -346,16 +370,17 @@ test("a file that no Blob could be is refused before it is fetched", async () =>
     const chunk = Buffer.from("a chunk");
     const great = y.HashTree.fromChunks([[y.dataHash(chunk), chunk.length], [new y.Hash(), 2n ** 53n]]);
     const [calls, fetch] = counted(() => chunk);
-    await assert.rejects(y.VerifiedBlob.open(great.fileHash(), fetch, () => great.proof(0, 1)), RangeError);
+    const message = `the file has ${2n ** 53n + 7n} bytes, and a Blob at most 2^53 - 1`;
+    await assert.rejects(y.VerifiedBlob.open(great.fileHash(), fetch, () => great.proof(0, 1)), new RangeError(message));
     assert.deepEqual(calls, []);
 });
 
-test("each opened range is freed, also after an error", async () => {
+test("each part is freed, also after an error", async () => {
     let open = 0;
     const { yurewha: it } = await wrapped(BYTES, (exports) => ({
         ...exports,
-        yurewha_range_proof_open: (...given) => (open++, exports.yurewha_range_proof_open(...given)),
-        yurewha_opened_range_free: (...given) => (open--, exports.yurewha_opened_range_free(...given)),
+        yurewha_part_open: (...given) => (open++, exports.yurewha_part_open(...given)),
+        yurewha_part_free: (...given) => (open--, exports.yurewha_part_free(...given)),
     }));
     const own = it.HashTree.fromChunks(chunksOf(it, FILE));
     let lies = false;
@@ -364,6 +389,23 @@ test("each opened range is freed, also after an error", async () => {
     lies = true;
     await assert.rejects(verified.slice(100_000).bytes(), errors.ProofMismatch);
     assert.equal(open, 0);
+});
+
+test("what the module doesn't keep is no fault, but that the size isn't known is one", async () => {
+    const answers = {};
+    const { yurewha: it } = await wrapped(BYTES, (exports) => {
+        const answering = (name) => (...given) => answers[name] ?? exports[name](...given);
+        return { ...exports, ...Object.fromEntries(["yurewha_reader_take", "yurewha_reader_size"].map((name) => [name, answering(name)])) };
+    });
+    const own = it.HashTree.fromChunks(chunksOf(it, FILE));
+    const opened = () => it.VerifiedBlob.open(own.fileHash(), bytesOf, (start, end) => own.proof(...own.chunksAt(start, end)));
+    const verified = await opened();
+    const { ARGUMENTS } = STATUS;
+    answers.yurewha_reader_size = ARGUMENTS;
+    await assert.rejects(opened(), errors.OutOfMemory);
+    answers.yurewha_reader_take = ARGUMENTS;
+    const message = "the proof says another size of the file than was shown before";
+    await assert.rejects(verified.slice(50_000).bytes(), new errors.ProofMismatch(message));
 });
 
 test("arguments have their types, and results too", async () => {
@@ -385,7 +427,8 @@ test("arguments have their types, and results too", async () => {
     }
     // What isn't a proof can't say that it checked.
     const range = { begins: () => 0n, ends: () => 7n, numChunks: 1, fileSize: 7n, readOrThrow: (...given) => given[2], free: () => {} };
-    await assert.rejects(y.VerifiedBlob.open(hash, () => Buffer.from("a chunk"), () => ({ open: () => range })), TypeError);
+    const noProof = new TypeError("what prove returns must be a RangeProof of the same module, or a Response, got an object");
+    await assert.rejects(y.VerifiedBlob.open(hash, () => Buffer.from("a chunk"), () => ({ open: () => range })), noProof);
     await assert.rejects(y.VerifiedBlob.open(hash, bytesOf, proofOf, { salt: new Uint8Array(31) }), errors.InvalidArguments);
     await assert.rejects(y.VerifiedBlob.open(hash, bytesOf, proofOf, { salt: null }), TypeError);
     assert.throws(() => new y.VerifiedBlob(), TypeError);

@@ -14,7 +14,10 @@ export const STATUS = {
     SESSION_OVERLAP: 33,
     SESSION_POSITIONS: 34,
     SESSION_GAP: 37,
+    ELSEWHERE: 38,
+    TOO_FAR: 39,
     PROOF_RULE: 48,
+    SESSION_RULE: 64,
 };
 
 /** The names of the errors that statuses mean. The error of a broken rule isn't among them. */
@@ -28,6 +31,8 @@ export const ERROR_NAMES = {
     33: "SessionOverlap",
     34: "SessionPositions",
     37: "SessionGap",
+    38: "ProofMismatch",
+    39: "ProofMismatch",
 };
 
 /** The lengths of a hash as hex text and as base64 text, and the greatest length of a status's text. */

@@ -55,10 +55,14 @@ for (const [value, kind] of Object.entries(NAMED)) {
     Object.defineProperty(kind.prototype, "name", { value, writable: true, configurable: true });
 }
 
-/** How many rules a subtree and a range proof have. Their statuses are `RULE` and `PROOF_RULE` plus the number of the rule. */
+/** How many rules the values of a subtree, a range proof and a session have. Their statuses are `RULE` and its like plus the rule. */
 const RULES = 13;
 const PROOF_RULES = 8;
-export const LAST_STATUS = STATUS.PROOF_RULE + PROOF_RULES;
+const SESSION_RULES = 7;
+export const LAST_STATUS = STATUS.SESSION_RULE + SESSION_RULES;
+
+/** The errors of a session's rules. Those that aren't here are of the form of its JSON. */
+const OF_SESSION = { 6: InvalidArguments, 7: SizeOverflow };
 
 /** The messages of errors that aren't the library's text of the status. */
 const MESSAGES = new Map([
@@ -67,6 +71,8 @@ const MESSAGES = new Map([
     [STATUS.TEXT, (what) => what],
     [STATUS.EMPTY_HANDLE, () => "the object was freed"],
     [STATUS.MISMATCH, () => "the proof doesn't show this hash"],
+    [STATUS.ELSEWHERE, (what) => what],
+    [STATUS.TOO_FAR, (what) => what],
 ]);
 
 /** The rule that a status names, of those that come after the status `before`; 0 if it names none of them. */
@@ -74,7 +80,7 @@ const ruleOf = (status, before, count) => (status > before && status <= before +
 
 /**
  * The error of a status other than 0. `text` is what the status means, in the module's words, and `what` the message of
- * InvalidArguments and InvalidText. `OfRule` is the error of a subtree's rule: the status doesn't say whether a JSON value or flat
+ * errors of which the caller knows more. `OfRule` is the error of a subtree's rule: the status doesn't say whether a JSON value or flat
  * lists break it, which the caller knows.
  */
 export function errorOf(status, text, what, OfRule = InvalidJson) {
@@ -84,6 +90,8 @@ export function errorOf(status, text, what, OfRule = InvalidJson) {
     if (rule) return new OfRule(rule, text);
     const proofRule = ruleOf(status, STATUS.PROOF_RULE, PROOF_RULES);
     if (proofRule) return new InvalidProof(proofRule, text);
+    const sessionRule = ruleOf(status, STATUS.SESSION_RULE, SESSION_RULES);
+    if (sessionRule) return new (OF_SESSION[sessionRule] ?? InvalidText)(text);
     return new YurewhaError(`the library returned status ${status}`);
 }
 

@@ -545,7 +545,7 @@ export interface SessionConstructor {
     readonly prototype: Session;
 
     /** Reads what `toJSON` returned here, or what Rust or Python wrote. There may be other members. That a run has as many chunks as
-     * positions can't be checked.
+     * positions can't be checked. If several things are wrong, the error is of the first of these, whichever run it is in.
      * @throws InvalidText the text isn't JSON or has another form, or a member occurs twice in one object
      * @throws InvalidJson a subtree breaks a rule
      * @throws InvalidArguments a run has no position, is marked at an end, or leaves no gap after the runs before it
@@ -648,7 +648,7 @@ export interface RangeProof {
     readonly numLevels: number;
 
     /** A copy of the packed form: a byte with the number of levels; for each level, from the chunks up, two bytes with the numbers of
-     * its left and right nodes; and the nodes in the order of `FlatProof`, packed as in `Chunks`. */
+     * its left and right nodes; and the nodes in the order of `FlatProof`, packed as in `Chunks`. Rust and Python have this form, too. */
     readonly bytes: Uint8Array;
 
     /** Returns the nodes before those of the range on a level, at most 8. Levels count from 0, from the chunks up. There are none if
@@ -807,7 +807,8 @@ export interface OpenedRangeConstructor {
  * next call asks again. A stream has handed on the pieces before, which were checked.
  *
  * It isn't an instance of `Blob`, so what the browser itself implements, such as `URL.createObjectURL`, doesn't take it. Code that calls
- * its members does. It holds no memory of the module between calls, so there is nothing to free.
+ * its members does. What it keeps is in the module's memory, and goes some time after nobody can reach the file or a part of it. So there is
+ * nothing to free.
  *
  * @example
  * ```js
@@ -867,7 +868,8 @@ export interface VerifiedBlobOptions {
     /** The media type; by default there is none. */
     readonly type?: string;
 
-    /** How many bytes are kept of what was used last, so that a reader of small parts fetches each chunk once; by default 4 MiB. */
+    /** How many bytes are kept of what was used last, so that a reader of small parts fetches each chunk once; by default 4 MiB. Each
+     * chunk counts 128 bytes more. */
     readonly cacheSize?: U64;
 
     /** How many bytes a proof's chunks may go beyond those that are asked for, on each side; by default 1 MiB. So a server can't make a

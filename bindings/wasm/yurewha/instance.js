@@ -6,6 +6,7 @@ import { makeHashTree } from "./hash_tree.js";
 import { makeHashing } from "./hasher.js";
 import { makeOpenedRange } from "./opened_range.js";
 import { makeRangeProof } from "./range_proof.js";
+import { makeReader } from "./reader.js";
 import { makeRoots } from "./roots.js";
 import { makeSession } from "./session.js";
 import { makeSubtree } from "./subtree.js";
@@ -26,7 +27,7 @@ export function instanceOver(library) {
         HashTree,
         RangeProof: proofs.RangeProof,
         OpenedRange: ranges.OpenedRange,
-        ...makeVerifiedBlob(hashes, proofs),
+        ...makeVerifiedBlob(hashes, proofs, makeReader(library, proofs.overProof)),
         ...makeHashing(library, hashes),
         ...makeRoots(library, hashes, lists),
     });

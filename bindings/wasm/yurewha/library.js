@@ -88,6 +88,22 @@ export class Library {
         }
     }
 
+    /**
+     * The text that a call writes. It gets pointers to parts, and room with its length, and a place for the text's length. A text that
+     * has no room in the area is written twice, since the first call says how long it is.
+     */
+    text(parts, run) {
+        const tried = (length) =>
+            this.over([length, 8, ...parts], (room, out, ...pointers) => {
+                const status = run(...pointers, room, BigInt(length), out);
+                if (status === STATUS.ROOM) return { needed: this.count(out) };
+                this.check(status);
+                return { text: decoder.decode(this.read(room, this.count(out))) };
+            });
+        const { text, needed } = tried(AREA / 2);
+        return text ?? tried(needed).text;
+    }
+
     /** What a status means, in the module's words. */
     #textOf(status) {
         return this.over([STATUS_TEXT_LENGTH, 8], (room, out) => {

@@ -14,13 +14,16 @@ export const MOST_BESIDE = 2 * 8 * MOST_LEVELS;
 export const PROOF_LIMIT = 1 << 24;
 /** The JSON text of a node has more bytes. */
 const NODE_TEXT = 64;
+/** The first rule of a proof that is one of its flat lists, and not of a form. */
+const FIRST_OF_LISTS = 5;
 const UNPACKED = "be a number of levels, two counts for each, and 40 bytes for each node";
-const decoder = new TextDecoder();
 
 /** The message of an error of a range of a list. */
 export const noRange = (first, end, count) => {
     return `a range must have a chunk, and none from ${count} on, got those from ${first} up to ${end}`;
 };
+
+const areSame = (mine, its) => mine.length === its.length && mine.every((byte, place) => byte === its[place]);
 
 /** The flat lists of a proof, packed as the module has them. */
 class Lists {
@@ -40,24 +43,22 @@ class Lists {
     }
 }
 
-/** The lists that packed bytes have: a byte for each count, as no count is greater than 64. Whether they are those of a proof isn't known
- * yet. */
-function unpacked(packed) {
-    const [count] = packed;
-    const start = 1 + 2 * count;
-    const rule = count === undefined ? 1 : packed.length < start ? 3 : (packed.length - start) % CHUNK_LENGTH !== 0 ? 4 : 0;
-    if (rule) throw new InvalidProof(rule, mustBe("a packed proof", UNPACKED, packed));
-    const counts = Array.from({ length: count }, (_, level) => [packed[1 + 2 * level], packed[2 + 2 * level]]);
-    return new Lists(packedLevels(counts), packed.slice(start));
-}
-
-/** The class `RangeProof` over a library, and `written`, the proof that a call writes to room for some number of nodes. */
+/**
+ * The class `RangeProof` over a library; `written`, the proof that a call writes to room for some number of nodes; and `overProof`, which
+ * calls a function with the arguments of a proof's lists, and with pointers to parts.
+ */
 export function makeRangeProof(library, { rawOf }, { Chunks, packedOf }, { opened }, HashTree) {
+    let overProof;
+
     class RangeProof {
         #lists;
 
+        static {
+            overProof = (proof, ...given) => over(proof.#lists, ...given);
+        }
+
         constructor(packed) {
-            this.#lists = packed instanceof Lists ? packed : checked(unpacked(bytes(packed, "a packed proof")));
+            this.#lists = packed instanceof Lists ? packed : unpacked(bytes(packed, "a packed proof"));
             show(this);
         }
 
@@ -90,11 +91,11 @@ export function makeRangeProof(library, { rawOf }, { Chunks, packedOf }, { opene
         }
 
         get bytes() {
-            const { counts, nodes } = this.#lists;
-            const block = new Uint8Array(1 + 2 * counts.length + nodes.length);
-            block.set([counts.length, ...counts.flat()]);
-            block.set(nodes, 1 + 2 * counts.length);
-            return block;
+            const length = 1 + 2 * this.numLevels + CHUNK_LENGTH * this.#numNodes;
+            return over(this.#lists, [length, 8], (lists, room, out) => {
+                library.check(library.call("yurewha_range_proof_to_bytes", ...lists, room, BigInt(length), out));
+                return library.read(room, library.count(out));
+            });
         }
 
         get chunks() {
@@ -135,16 +136,14 @@ export function makeRangeProof(library, { rawOf }, { Chunks, packedOf }, { opene
 
         equals(other) {
             if (typeof other !== "object" || other === null || !(#lists in other)) throw wrongType("the other", "be a RangeProof", other);
-            const [mine, its] = [this.bytes, other.bytes];
-            return mine.length === its.length && mine.every((byte, place) => byte === its[place]);
+            return ["levels", "nodes"].every((name) => areSame(this.#lists[name], other.#lists[name]));
         }
 
         toJSON() {
-            const length = jsonLength(this.#lists);
-            return over(this.#lists, [length, 8], (lists, room, out) => {
-                library.check(library.call("yurewha_range_proof_to_json", ...lists, room, BigInt(length), out));
-                return decoder.decode(library.read(room, length));
-            });
+            const { levels, nodes } = this.#lists;
+            return library.text([levels, nodes], (levelsAt, nodesAt, ...room) =>
+                library.call("yurewha_range_proof_to_json", ...lent(this.#lists, levelsAt, nodesAt), ...room),
+            );
         }
 
         toFlat() {
@@ -166,20 +165,16 @@ export function makeRangeProof(library, { rawOf }, { Chunks, packedOf }, { opene
     const show = showing(RangeProof, ["bytes"]);
     inspected(RangeProof, "RangeProof", ({ chunks, numLevels }, inspect) => ` ${inspect({ chunks, numLevels })}`);
 
-    /** Calls `run` with the arguments of flat lists, and pointers to parts. */
-    const over = ({ levels, nodes }, parts, run) =>
-        library.over([levels, nodes, ...parts], (levelsAt, nodesAt, ...pointers) => {
-            const lists = [levelsAt, BigInt(levels.length / LEVEL_LENGTH), nodesAt, BigInt(nodes.length / CHUNK_LENGTH)];
-            return run(lists, ...pointers);
-        });
+    /** The arguments of flat lists that stand at two places. */
+    const lent = ({ levels, nodes }, levelsAt, nodesAt) => {
+        return [levelsAt, BigInt(levels.length / LEVEL_LENGTH), nodesAt, BigInt(nodes.length / CHUNK_LENGTH)];
+    };
 
-    /** Without room the call writes how long the text is. */
-    const jsonLength = (lists) =>
-        over(lists, [0, 8], (given, room, out) => {
-            const status = library.call("yurewha_range_proof_to_json", ...given, room, 0n, out);
-            if (status !== STATUS.ROOM) library.check(status);
-            return library.count(out);
-        });
+    /** Calls `run` with the arguments of flat lists, and pointers to parts. */
+    const over = (lists, parts, run) => {
+        const given = [lists.levels, lists.nodes, ...parts];
+        return library.over(given, (levelsAt, nodesAt, ...pointers) => run(lent(lists, levelsAt, nodesAt), ...pointers));
+    };
 
     /** Lists that are those of a proof. */
     function checked(lists) {
@@ -187,15 +182,29 @@ export function makeRangeProof(library, { rawOf }, { Chunks, packedOf }, { opene
         return lists;
     }
 
-    /** The proof that a call writes, of at most this many nodes. The call gets pointers to parts, too. */
-    function written(most, parts, run) {
+    /** The lists of a proof that a call writes, of at most this many nodes. The call gets pointers to parts, too. */
+    function listed(most, parts, run) {
         const rooms = [LEVEL_LENGTH * MOST_LEVELS, CHUNK_LENGTH * most];
         return library.over([...parts, ...rooms, 8, 8], (...pointers) => {
             const [levels, nodes, levelCount, nodeCount] = pointers.splice(parts.length);
             run([levels, BigInt(MOST_LEVELS), nodes, BigInt(most), levelCount, nodeCount], ...pointers);
             const counts = library.read(levels, LEVEL_LENGTH * library.count(levelCount));
-            return new RangeProof(new Lists(counts, library.read(nodes, CHUNK_LENGTH * library.count(nodeCount))));
+            return new Lists(counts, library.read(nodes, CHUNK_LENGTH * library.count(nodeCount)));
         });
     }
-    return { RangeProof, written };
+
+    /** The proof that a call writes in this way. */
+    const written = (...given) => new RangeProof(listed(...given));
+
+    /** The lists of the proof that packed bytes say. */
+    function unpacked(packed) {
+        return listed(Math.floor(packed.length / CHUNK_LENGTH), [packed], (rooms, at) => {
+            const status = library.call("yurewha_range_proof_from_bytes", at, BigInt(packed.length), ...rooms);
+            const rule = status - STATUS.PROOF_RULE;
+            // The module's texts of these rules speak of JSON, too.
+            if (0 < rule && rule < FIRST_OF_LISTS) throw new InvalidProof(rule, mustBe("a packed proof", UNPACKED, packed));
+            library.check(status);
+        });
+    }
+    return { RangeProof, written, overProof };
 }

@@ -1,15 +1,14 @@
 // Sessions: chunks by their positions, which come in any order.
 
-import { bytes, decimal, mustBe, u64, wrongType } from "./arguments.js";
+import { bytes, decimal, mustBe, text, u64, wrongType } from "./arguments.js";
 import { CHUNK_LENGTH } from "./chunks.js";
-import { InvalidJson, STATUS, SessionGap, SessionOverlap, sessionSizes } from "./errors.js";
+import { STATUS, SessionGap, SessionOverlap, sessionSizes } from "./errors.js";
 import { Handle, Handles, disposable } from "./handle.js";
 import { HASH_LENGTH, thirtyTwo } from "./hash.js";
-import { savedOf, textOf } from "./session_json.js";
 import { inspected, showing } from "./shown.js";
 
 const KEEPS_NONE = "this session keeps no hashes";
-const decoder = new TextDecoder();
+const STRICT = "be JSON in which no object has a member twice";
 const unfit = (first, end) =>
     `a run must have a position, no mark at an end, and a gap after the runs before it, got that from ${first} up to ${end}`;
 const noHash = (first, end) =>
@@ -53,15 +52,10 @@ export function makeSession(library, { Hash, rawOf, result, unpacked }, { packed
         }
 
         static fromJSON(json, options) {
-            // It is read twice, and nobody may change it meanwhile.
-            const given = typeof json === "string" ? json : bytes(json, "JSON").slice();
-            try {
-                Subtree.fromJSON(given).free();
-            } catch (error) {
-                // The module says what is JSON, and for that reads a subtree.
-                if (!(error instanceof InvalidJson)) throw error;
-            }
-            return Session.restore(savedOf(typeof given === "string" ? given : decoder.decode(given)), options);
+            const given = typeof json === "string" ? text(json, "JSON") : bytes(json, "JSON");
+            const keeps = keepsHashes(options) ? 1 : 0;
+            const read = (at, made) => library.call("yurewha_session_from_json", at, BigInt(given.length), keeps, made);
+            return library.over([given], (at) => new Session(handles.make((made) => library.check(read(at, made), mustBe("the text", STRICT, json)))));
         }
 
         static restore(saved, options) {
@@ -240,7 +234,8 @@ export function makeSession(library, { Hash, rawOf, result, unpacked }, { packed
         }
 
         toJSON() {
-            return textOf(this.saved);
+            const { pointer } = this.#handle;
+            return library.text([], (...room) => library.call("yurewha_session_to_json", pointer, 1, ...room));
         }
 
         root(total) {

@@ -2,13 +2,12 @@
 
 import { bytes, noJson, text, truth, wrongType } from "./arguments.js";
 import { CHUNK_LENGTH } from "./chunks.js";
-import { InvalidArguments, STATUS } from "./errors.js";
+import { InvalidArguments } from "./errors.js";
 import { HANDLE_LENGTH, Handle, Handles, disposable } from "./handle.js";
 import { thirtyTwo } from "./hash.js";
 import { LEVEL_LENGTH, packedLevels, unpackedLevels } from "./levels.js";
 import { inspected, showing } from "./shown.js";
 
-const decoder = new TextDecoder();
 const flag = (value) => (value ? 1 : 0);
 const misplaced = "of adjacent ranges, only the first may be marked at its start, and only the last at its end";
 
@@ -157,11 +156,8 @@ export function makeSubtree(library, { Hash, rawOf, result, hmac }, { Chunks, pa
         }
 
         toJSON() {
-            const length = jsonLength(this);
-            return library.over([length, 8], (room, out) => {
-                library.check(library.call("yurewha_subtree_to_json", pointerOf(this), room, BigInt(length), out));
-                return decoder.decode(library.read(room, length));
-            });
+            const pointer = pointerOf(this);
+            return library.text([], (...room) => library.call("yurewha_subtree_to_json", pointer, ...room));
         }
 
         toFlat() {
@@ -195,16 +191,6 @@ export function makeSubtree(library, { Hash, rawOf, result, hmac }, { Chunks, pa
         return library.over([1, 1], (...marks) => {
             library.check(library.call("yurewha_subtree_marks", pointer, ...marks));
             return marks.map((mark) => library.truth(mark));
-        });
-    };
-
-    /** Without room the call writes how long the text is. */
-    const jsonLength = (subtree) => {
-        const pointer = pointerOf(subtree);
-        return library.over([0, 8], (room, out) => {
-            const status = library.call("yurewha_subtree_to_json", pointer, room, 0n, out);
-            if (status !== STATUS.ROOM) library.check(status);
-            return library.count(out);
         });
     };
 

@@ -1,9 +1,8 @@
 // Files that somebody else keeps. They are read like a Blob, and nothing is handed on that wasn't checked.
 
 import { dataOf, text, u64, wrongType } from "./arguments.js";
-import { ProofMismatch } from "./errors.js";
-import { thirtyTwo } from "./hash.js";
-import { KeptParts } from "./kept_parts.js";
+import { outOfMemory } from "./errors.js";
+import { HASH_LENGTH, thirtyTwo } from "./hash.js";
 import { PROOF_LIMIT } from "./range_proof.js";
 import { inspected, showing } from "./shown.js";
 import { bodyOf, readAll } from "./streams.js";
@@ -22,65 +21,58 @@ function callable(value, what) {
     return value;
 }
 
-/** A file that somebody else keeps, of which parts are fetched and checked. */
+/** A file that somebody else keeps, of which parts are fetched. A reader checks and keeps them. */
 class RemoteFile {
-    #open;
+    #reader;
     #fetch;
     #prove;
     #chunkLimit;
-    #kept;
 
-    /** `open` opens a proof, and `prove` returns one; `fetch` returns data or a response. */
-    constructor(open, fetch, prove, cacheSize, chunkLimit) {
-        this.#open = open;
+    /** `prove` returns a proof, and `fetch` data or a response. */
+    constructor(reader, fetch, prove, chunkLimit) {
+        this.#reader = reader;
         this.#fetch = fetch;
         this.#prove = prove;
         this.#chunkLimit = chunkLimit;
-        this.#kept = new KeptParts(cacheSize);
     }
 
     /** The size of the file, which its first chunk shows. */
     async size(signal) {
-        return (await this.#part(0, 1, signal)).size;
+        await this.#fetched(0, 1, signal);
+        const { size } = this.#reader;
+        // A chunk that had no room in the module's memory shows nothing.
+        if (size === null) throw outOfMemory();
+        return size;
     }
 
     /** Bytes from a place on, in memory of their own: at least one, and none from `end` on, which isn't after the file's end. */
     async bytes(start, end, signal) {
-        const stop = Math.min(end, start + PIECE);
-        const { begin, data } = this.#kept.at(start) ?? (await this.#part(start, stop, signal));
-        return data.slice(start - begin, stop - begin);
+        const kept = this.#reader.read(start, Math.min(end - start, PIECE));
+        return kept.data.length > 0 ? kept.data : this.#fetched(start, kept.end, signal);
     }
 
-    /** The part of the chunks with the bytes from one place up to another, once it is checked. It is kept. */
-    async #part(start, end, signal) {
-        const range = this.#open(await this.#prove(start, end, signal));
+    /** The bytes from one place up to another, once they are fetched and checked. Their chunks are kept. */
+    async #fetched(start, end, signal) {
+        const part = this.#reader.open(await this.#prove(start, end, signal), start, end, this.#chunkLimit);
         try {
-            const [begin, stop] = this.#places(range, start, end);
-            const received = await this.#fetch(begin, stop, signal);
-            const given = received instanceof Response ? await bodyOf(received, stop - begin) : received;
-            const part = { begin, data: range.readOrThrow(begin, stop, dataOf(given, "what fetch returns")), size: Number(range.fileSize) };
-            this.#kept.keep(part);
-            return part;
+            const data = part.check(dataOf(await this.#received(part, signal), "what fetch returns"));
+            this.#reader.take(part);
+            return data;
         } finally {
-            range.free();
+            part.free();
         }
     }
 
-    /** Where the chunks of a range begin and end, which have to be those with the bytes from one place up to another. */
-    #places(range, start, end) {
-        const [begin, stop, size] = [range.begins(0), range.ends(range.numChunks - 1), range.fileSize];
-        const told = `the proof is of the bytes from ${begin} up to ${stop}`;
-        const asked = `those from ${start} up to ${end}`;
-        if (begin > start || stop < end) throw new ProofMismatch(`${told}, and not of ${asked}`);
-        if (size > Number.MAX_SAFE_INTEGER) throw new RangeError(`the file has ${size} bytes, and a Blob at most 2^53 - 1`);
-        const most = Math.max(start - Number(begin), Number(stop) - end);
-        if (most > this.#chunkLimit) throw new ProofMismatch(`${told}, too far beyond ${asked}: see chunkLimit`);
-        return [Number(begin), Number(stop)];
+    /** What comes as the data of a part. */
+    async #received({ begin, end, fileSize }, signal) {
+        if (fileSize > Number.MAX_SAFE_INTEGER) throw new RangeError(`the file has ${fileSize} bytes, and a Blob at most 2^53 - 1`);
+        const received = await this.#fetch(Number(begin), Number(end), signal);
+        return received instanceof Response ? bodyOf(received, Number(end - begin)) : received;
     }
 }
 
 /** The class `VerifiedBlob`. */
-export function makeVerifiedBlob({ Hash, rawOf }, { RangeProof }) {
+export function makeVerifiedBlob({ rawOf }, { RangeProof }, { Reader }) {
     class VerifiedBlob {
         #fileHash;
         #file;
@@ -99,15 +91,16 @@ export function makeVerifiedBlob({ Hash, rawOf }, { RangeProof }) {
         }
 
         static async open(fileHash, source, prove, { salt, type = "", cacheSize = CACHE_SIZE, chunkLimit = CHUNK_LIMIT } = {}) {
-            const isEmpty = rawOf(fileHash, "a file hash").every((byte) => byte === 0);
+            const hash = rawOf(fileHash, "a file hash");
             const isAddress = typeof source === "string" || source instanceof URL;
             const fetch = isAddress ? byRange(source) : callable(source, "a source that is no address");
-            const [most, limit] = [u64(cacheSize, "a cache size"), u64(chunkLimit, "a chunk limit")].map(Number);
+            const [most, limit] = [u64(cacheSize, "a cache size"), u64(chunkLimit, "a chunk limit")];
             const proving = proofOf(callable(prove, "prove"));
-            const key = salt === undefined ? salt : thirtyTwo(salt, "a salt");
-            const file = new RemoteFile((proof) => proof.open(fileHash, key), fetch, proving, most, limit);
+            const key = salt === undefined ? new Uint8Array(HASH_LENGTH) : thirtyTwo(salt, "a salt");
             const kind = mediaType(type);
+            const file = new RemoteFile(new Reader(hash, key, most), fetch, proving, limit);
             // The default hash is that of the empty file, of which no proof shows anything.
+            const isEmpty = hash.every((byte) => byte === 0);
             const size = isEmpty ? 0 : await file.size(new AbortController().signal);
             return new VerifiedBlob(fileHash, file, 0, size, kind);
         }
