@@ -22,6 +22,7 @@ function report(run) {
 function startTabs() {
     const tabs = [...document.querySelectorAll("[role=tab]")];
     const select = (chosen) => {
+        document.getElementById("error").hidden = true;
         for (const tab of tabs) {
             tab.setAttribute("aria-selected", tab === chosen);
             tab.tabIndex = tab === chosen ? 0 : -1;

@@ -195,6 +195,7 @@ def hash_files(browser: Browser, folder: Path, photo: Callable[[str], None]) -> 
     wait(browser, "!document.getElementById('error').hidden")
     same(text(browser, "error").startswith("Line 1 is no pair"), True)
     browser.click("#tab-ranges")
+    same(browser.run("return document.getElementById('error').hidden"), True)
 
 
 def pieces_of(data: bytes, length: int) -> List[m.Node]:
