@@ -164,7 +164,7 @@ test("JSON that is none of chunks or a session is refused", () => {
         [{ runs: [...runs, ...runs], knownHashes }, errors.InvalidArguments],
     ];
     for (const [saved, kind] of table) assert.throws(() => y.Session.restore(saved), kind, JSON.stringify(saved));
-    const lists = "a saved session must have lists as `runs` and `knownHashes`, got ";
+    const lists = "a saved session must have lists as `runs` and `knownHashes` (`fromJSON` reads JSON), got ";
     const none = [["{}", '"{}"'], [{}, "an object"], [{ runs: "ab", knownHashes }, "an object"], [undefined, "undefined"], [7, "7"]];
     for (const [saved, got] of none) {
         assert.throws(() => y.Session.restore(saved), new TypeError(lists + got));

@@ -26,7 +26,7 @@ function listsOf(saved) {
     const lists = ["runs", "knownHashes"].map((name) => {
         const list = saved?.[name];
         const isList = typeof list === "object" && typeof list?.[Symbol.iterator] === "function";
-        if (!isList) throw wrongType("a saved session", "have lists as `runs` and `knownHashes`", saved);
+        if (!isList) throw wrongType("a saved session", "have lists as `runs` and `knownHashes` (`fromJSON` reads JSON)", saved);
         return [...list];
     });
     lists[0].forEach((run, k) => {
