@@ -43,7 +43,7 @@
 //!   once take turns. Give each thread a clone if that is too slow. Threads that read one [`HashTree`](own::HashTree) or
 //!   [`OpenedRange`](own::OpenedRange) don't wait for each other.
 //! - **Errors.** [`CoreError`](error::CoreError) has the variants that these calls return, with its own texts.
-//! - **Targets** are Linux on x86-64 and aarch64, with glibc or musl, and `x86_64-pc-windows-gnu`.
+//! - **Targets** are Linux and macOS on x86-64 and aarch64, with glibc or musl on Linux, and `x86_64-pc-windows-gnu`.
 //!
 //! The table "In the crate `yurewha`" of `docs/DIFFERENCES.md`, in the repository, lists the rest.
 

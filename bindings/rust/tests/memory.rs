@@ -393,6 +393,9 @@ fn base64_is_refused() {
 fn sessions_are_refused() {
     let nodes = nodes(60);
     assert_each_refusal(NO_MEMORY, Session::try_new);
+    assert_each_refusal(SessionFault::OutOfMemory, || {
+        Session::from_chunks(nodes.iter().copied())
+    });
     let mut session = Session::new();
     session.put(40, &nodes[40..]).unwrap();
     for before in 0.. {
@@ -451,6 +454,14 @@ fn a_map_takes_room_for_the_keys_that_come() {
         assert_eq!(map.len(), 1000);
     });
     assert!((16_000..1 << 20).contains(&greatest), "{greatest}");
+}
+
+// Its greatest list is of a few thousand chunks, of 40 bytes each.
+#[test]
+fn a_session_of_an_iterator_does_not_keep_its_chunks() {
+    let chunks = (0..100_000).map(|seed| (DataHash::from([seed; 4]), 1));
+    let greatest = greatest_request(|| assert_eq!(Session::from_chunks(chunks).unwrap().num_chunks(), 100_000));
+    assert!(greatest < 400_000, "{greatest}");
 }
 
 // Its nodes take 40 bytes each, and twice that while their vector grows; their text would take more than 100.

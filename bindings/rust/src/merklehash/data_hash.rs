@@ -425,6 +425,13 @@ impl fmt::LowerHex for DataHash {
     }
 }
 
+/// The hex text with upper-case digits, which [`from_hex`](DataHash::from_hex) reads, too. Width and flags are ignored.
+impl fmt::UpperHex for DataHash {
+    fn fmt(&self, f: &mut fmt::Formatter<'_>) -> fmt::Result {
+        f.write_str(ascii(&self.hex_digits().map(|digit| digit.to_ascii_uppercase())))
+    }
+}
+
 /// The hex text.
 impl fmt::Display for DataHash {
     fn fmt(&self, f: &mut fmt::Formatter<'_>) -> fmt::Result {
@@ -444,6 +451,14 @@ impl From<[u64; 4]> for DataHash {
     #[inline]
     fn from(words: [u64; 4]) -> Self {
         DataHash(words)
+    }
+}
+
+/// Returns the words.
+impl From<DataHash> for [u64; 4] {
+    #[inline]
+    fn from(hash: DataHash) -> Self {
+        hash.0
     }
 }
 

@@ -7,6 +7,9 @@ use crate::status::{answer, given, plain};
 use std::io::{self, ErrorKind, Read, Write};
 use std::{fmt, ptr};
 
+#[cfg(feature = "digest")]
+mod digest;
+
 /// A hasher that takes a message in pieces. It is also a [`Write`]. It allocates nothing. A clone copies its state of
 /// about two kilobytes. It has no form in serde: the state reveals the key, and no call can check a state that is read.
 ///

@@ -181,6 +181,40 @@ impl Session {
         Ok(Session { handle })
     }
 
+    /// Returns a session that keeps no hashes, with the chunks of an iterator at the positions from 0 on. It holds a few
+    /// thousand of them at once, so its memory hardly grows with their number.
+    ///
+    /// ```
+    /// use yurewha::merklehash::{file_hash, MerkleHash};
+    /// use yurewha::own::Session;
+    ///
+    /// let chunks = (0..10_000).map(|seed| (MerkleHash::random_from_seed(seed), 100));
+    /// let session = Session::from_chunks(chunks.clone())?;
+    /// assert_eq!(session.finish(session.num_chunks())?, file_hash(&chunks.collect::<Vec<_>>()));
+    /// # Ok::<(), yurewha::own::SessionFault>(())
+    /// ```
+    ///
+    /// # Errors
+    ///
+    /// - [`Sizes`](SessionFault::Sizes) if the sizes add up to more than `u64::MAX`
+    /// - [`OutOfMemory`](SessionFault::OutOfMemory) if an allocation fails
+    pub fn from_chunks(chunks: impl IntoIterator<Item = Node>) -> std::result::Result<Self, SessionFault> {
+        const AT_ONCE: usize = 4096;
+        let out_of_memory = |_| SessionFault::OutOfMemory;
+        let mut session = Self::try_without_hashes().map_err(out_of_memory)?;
+        let (mut first, mut piece) = (0, room(AT_ONCE).map_err(out_of_memory)?);
+        for chunk in chunks {
+            piece.push(chunk);
+            if piece.len() == AT_ONCE {
+                session.put(first, &piece)?;
+                first += AT_ONCE as u64;
+                piece.clear();
+            }
+        }
+        session.put(first, &piece)?;
+        Ok(session)
+    }
+
     /// Does the same as [`clone`](Clone::clone), but returns an error if an allocation fails.
     ///
     /// ```

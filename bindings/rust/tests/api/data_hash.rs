@@ -156,6 +156,15 @@ fn a_hash_and_its_bytes_have_other_orders_and_other_hashes() {
 }
 
 #[test]
+fn words_come_back_and_digits_are_upper_case_if_asked_for() {
+    for hash in drawn() {
+        assert_eq!(DataHash::from(<[u64; 4]>::from(hash)), hash);
+        assert_eq!(format!("{hash:X}"), hash.hex().to_uppercase());
+    }
+    assert_eq!(<[u64; 4]>::from(DataHash::from([1, 2, 3, 4])), [1, 2, 3, 4]);
+}
+
+#[test]
 fn words_are_read_and_written_in_place() {
     let mut hash = DataHash::default();
     hash[3] = 7;

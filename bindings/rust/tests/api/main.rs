@@ -3,6 +3,8 @@
 mod clients;
 mod data_hash;
 mod definitions;
+#[cfg(feature = "digest")]
+mod digest;
 mod draws;
 #[cfg(feature = "serde")]
 mod forms;

@@ -21,6 +21,20 @@ fn the_example_is_answered() {
 }
 
 #[test]
+fn a_session_takes_the_chunks_of_an_iterator_in_order() {
+    for count in [0, 1, 4095, 4096, 4097, 10_000] {
+        let chunks: Vec<Node> = (0..count)
+            .map(|seed| (MerkleHash::random_from_seed(seed), seed))
+            .collect();
+        let session = Session::from_chunks(chunks.iter().copied()).unwrap();
+        assert_eq!((session.num_chunks(), session.keeps_hashes()), (count, false));
+        assert_eq!(session.finish(count), Ok(file_hash(&chunks)));
+    }
+    let huge = (MerkleHash::default(), u64::MAX);
+    assert_eq!(Session::from_chunks([huge; 2]).unwrap_err(), SessionFault::Sizes);
+}
+
+#[test]
 fn a_session_counts_its_chunks() {
     let mut session = Session::new();
     session.put(7, &reference(&[1, 2])).unwrap();

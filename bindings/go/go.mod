@@ -1,0 +1,3 @@
+module yurewha
+
+go 1.18
