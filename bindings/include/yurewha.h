@@ -48,6 +48,7 @@
  *
  * - The library allocates by malloc and realloc, and frees by free, or by the functions that yurewha_set_allocator got. These
  *   must belong together. They must align a block to each power of two up to 16 that divides its size.
+ * - For any call 64 KiB of stack are enough, and most take less (docs/LIMITS.md). With too little, a signal ends the process.
  * - No call may be made from a signal handler. None may be made in the forked child of a process with several threads.
  */
 #ifndef YUREWHA_H

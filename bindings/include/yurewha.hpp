@@ -89,7 +89,6 @@ class data_view {
 public:
     constexpr data_view() noexcept = default;
     constexpr data_view(const void *data, std::size_t size) noexcept : data_(data), size_(size) {}
-    constexpr data_view(const char *text) = delete;
     template <class Container, class = std::enable_if_t<sizeof(element<Container>) == 1 && std::is_trivial_v<element<Container>> &&
                                                         !(std::is_array_v<Container> && std::is_same_v<element<Container>, const char>)>>
     constexpr data_view(const Container &list) noexcept : data_(std::data(list)), size_(std::size(list))
