@@ -5,8 +5,8 @@
 //
 // - A status other than YUREWHA_DONE is thrown as an `error`, and YUREWHA_MEMORY as std::bad_alloc. After that nothing has changed, with
 //   the exceptions that yurewha.h names. A result is a std::optional where YUREWHA_ARGUMENTS says only that there is none.
-// - An object owns one handle. After a move the other object is empty: it may be assigned to and destroyed, and any other function of it
-//   throws YUREWHA_EMPTY_HANDLE.
+// - An object owns one handle. After a move the other object is empty: it may be assigned to and destroyed, and a call by it throws
+//   YUREWHA_EMPTY_HANDLE.
 // - Threads may call const functions of one object at once. While a thread calls another function of it, no other thread may use it.
 #ifndef YUREWHA_HPP
 #define YUREWHA_HPP
