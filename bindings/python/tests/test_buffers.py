@@ -154,7 +154,7 @@ def test_what_is_written_during_a_call_is_not_seen(monkeypatch, name, shown, len
     room, tree = bytearray(data), y.HashTree([(y.data_hash(data), length)])
     opened, expected = tree.proof(0, 1).open_root(tree.root), of(data)
     form = SHOWN[shown](room)
-    for calls in (_library.short, _library.long):
+    for calls in (_library.short, _library.long, _library.bare):
         for taking in HASHING:
             def spied(*arguments, call=getattr(calls, taking)):
                 room[:] = bytes(length)
@@ -246,7 +246,7 @@ def test_each_buffer_is_given_back():
 def crossings(monkeypatch):
     """The calls of the library, in order: each name, and whether the interpreter's lock is given up."""
     made = []
-    for calls in (_library.short, _library.long):
+    for calls in (_library.short, _library.long, _library.bare):
         for name in _declarations.DECLARATIONS:
             def spied(*arguments, call=getattr(calls, name), told=(name[8:], calls is _library.long)):
                 made.append(told)

@@ -560,6 +560,8 @@ def deep_calls():
     great, text = bytearray((1 << 20) + 17), one.to_json()
     file = y.HashTree([(y.data_hash(great), len(great))])
     file_range = file.proof(0, 1).open_root(file.root)
+    kept = y.VerifiedFile(file.file_hash(), lambda start, stop: great, file.proof_of_bytes, chunk_limit=len(great))
+    kept.read(7)
     return [
         lambda: y.Hash(bytearray(32)), Z.hex, lambda: y.Hash.from_hex(64 * "0"), Z.base64, lambda: Z.hmac(Z), lambda: Z % 3,
         lambda: Z < Z, lambda: y.data_hash(great), lambda: y.internal_node_hash(memoryview(b"abc")[1:]),
@@ -581,6 +583,7 @@ def deep_calls():
         lambda: repr(opened()), lambda: opened().ends(0), lambda: file_range.check(0, memoryview(great)),
         lambda: file_range.read(3, 5, great).tobytes(), lambda: pickle.loads(pickle.dumps(PROOF)).levels,
         lambda: y.VerifiedFile(file.file_hash(), lambda start, stop: great, file.proof_of_bytes, chunk_limit=len(great)).read(7),
+        lambda: y.data_hash(b"abc"), lambda: y.Hasher(b"abc").count, lambda: kept.read_at(3, 5), lambda: str(Z), lambda: y.Hash() > y.Hash(),
     ]
 
 

@@ -159,11 +159,13 @@ def test_tasks_ask_at_once():
 def test_the_lock_is_held_while_kept_parts_are_used(monkeypatch):
     held, file, names = [], drawn(31, 20).open(), {f"yurewha_reader_{name}" for name in ("read", "take", "size")}
     for name in names:
-        def spied(*given, call=getattr(_library.short, name), name=name):
+        calls = _library.bare if name == "yurewha_reader_read" else _library.short
+
+        def spied(*given, call=getattr(calls, name), name=name):
             held.append((name, file._reader._lock._is_owned()))
             return call(*given)
 
-        monkeypatch.setattr(_library.short, name, spied)
+        monkeypatch.setattr(calls, name, spied)
     assert file.read_at(3, 5) == file.read_at(3, 5) and file.size and {name for name, _ in held} == names and all(lock for _, lock in held)
     assert not file._reader._lock._is_owned()
 
@@ -472,15 +474,16 @@ GREAT = Source(random.Random(41).randbytes(12 * MIB), range(0, 12 * MIB + 1, 1 <
 
 @READERS
 def test_4_mib_are_kept_unless_another_number_is_given(reader):
-    _, read_at = reader(GREAT)
+    source = GREAT.again()
+    _, read_at = reader(source)
     for place in range(0, 12 * MIB, MIB):
-        assert read_at(place, place + MIB) == GREAT.data[place:place + MIB]
-    GREAT.fetched.clear()
+        assert read_at(place, place + MIB) == source.data[place:place + MIB]
+    source.fetched.clear()
     first = 8 * MIB + (1 << 16)  # 63 chunks, since each counts a little more than its bytes
     for place in (first, *range(9 * MIB, 12 * MIB, MIB)):
-        assert read_at(place, 12 * MIB) == GREAT.data[place:]
-    assert GREAT.fetched == []
-    assert read_at(first - 1, first) == GREAT.data[first - 1:first] and len(GREAT.fetched) == 1
+        assert read_at(place, 12 * MIB) == source.data[place:]
+    assert source.fetched == []
+    assert read_at(first - 1, first) == source.data[first - 1:first] and len(source.fetched) == 1
 
 
 def in_steps(file, length):
@@ -490,17 +493,17 @@ def in_steps(file, length):
 @pytest.mark.parametrize("read_ahead", [1, 1 << 20, 4 << 20, 1 << 40])
 @pytest.mark.parametrize("length", [50_000, 1 << 16, 5_000_000])
 def test_a_file_that_is_read_ahead_is_the_same(read_ahead, length):
-    GREAT.fetched.clear()
-    assert in_steps(GREAT.open(read_ahead=read_ahead), length) == GREAT.data
-    assert sum(stop - start for start, stop in GREAT.fetched) < 1.3 * len(GREAT.data)
+    source = GREAT.again()
+    assert in_steps(source.open(read_ahead=read_ahead), length) == source.data
+    assert sum(stop - start for start, stop in source.fetched) < 1.3 * len(source.data)
 
 
 def test_reading_ahead_asks_few_times():
     """192 reads of a chunk each are 192 requests without it."""
     for read_ahead, most in ((0, 192), (8 << 20, 14), (64 << 20, 10)):
-        GREAT.fetched.clear()
-        assert in_steps(GREAT.open(read_ahead=read_ahead), 1 << 16) == GREAT.data
-        assert len(GREAT.fetched) <= most and (read_ahead or len(GREAT.fetched) == most)
+        source = GREAT.again()
+        assert in_steps(source.open(read_ahead=read_ahead), 1 << 16) == source.data
+        assert len(source.fetched) <= most and (read_ahead or len(source.fetched) == most)
 
 
 def test_a_piece_ahead_is_asked_for_in_parts_if_it_is_long(monkeypatch):
@@ -525,25 +528,25 @@ def test_pieces_are_read_ahead_at_once():
 
 
 def test_no_more_is_read_ahead_than_was_said():
-    GREAT.fetched.clear()
-    file = GREAT.open(read_ahead=2 << 20)
+    source = GREAT.again()
+    file = source.open(read_ahead=2 << 20)
     for place in range(2, 2 * MIB, 1 << 16):
         file.read(1 << 16)
-        assert max(stop for _, stop in GREAT.fetched) <= place + (1 << 16) + (2 << 20) + (1 << 18) + (1 << 16)
+        assert max(stop for _, stop in source.fetched) <= place + (1 << 16) + (2 << 20) + (1 << 18) + (1 << 16)
         assert len(file._ahead._pieces) <= 9
 
 
 def test_what_is_far_away_is_read_by_itself():
     """Only a read that begins where the last one ended reads ahead."""
-    GREAT.fetched.clear()
-    file = GREAT.open(read_ahead=8 << 20, cache_size=0)
+    source = GREAT.again()
+    file = source.open(read_ahead=8 << 20, cache_size=0)
     for place in (0, 5 * MIB, 3 * MIB, 7 * MIB):
         file.seek(place)
-        assert file.read(100) == GREAT.data[place:place + 100]
-    assert GREAT.fetched == [(place, place + (1 << 16)) for place in (0, 5 * MIB, 3 * MIB, 7 * MIB)]
-    assert file.read(100) == GREAT.data[7 * MIB + 100:7 * MIB + 200] and file._ahead._pieces
+        assert file.read(100) == source.data[place:place + 100]
+    assert source.fetched == [(place, place + (1 << 16)) for place in (0, 5 * MIB, 3 * MIB, 7 * MIB)]
+    assert file.read(100) == source.data[7 * MIB + 100:7 * MIB + 200] and file._ahead._pieces
     file.seek(0)
-    assert file.read(100) == GREAT.data[:100] and not file._ahead._pieces
+    assert file.read(100) == source.data[:100] and not file._ahead._pieces
 
 
 def test_readers_of_lines_and_buffers_read_ahead():
@@ -595,11 +598,12 @@ def test_pieces_that_came_before_an_error_are_not_read_again(length):
 
 
 def test_a_file_that_is_closed_reads_no_further_ahead():
-    file = GREAT.open(read_ahead=8 << 20)
-    assert file.read(1 << 16) + file.read(5) == GREAT.data[:(1 << 16) + 5] and file._ahead._pieces
+    source = GREAT.again()
+    file = source.open(read_ahead=8 << 20)
+    assert file.read(1 << 16) + file.read(5) == source.data[:(1 << 16) + 5] and file._ahead._pieces
     file.close()
     assert not file._ahead._pieces
-    GREAT.fetched.clear()
+    source.fetched.clear()
     with pytest.raises(ValueError, match="closed"):
         file.read(1)
     unmade = y.VerifiedFile.__new__(y.VerifiedFile)

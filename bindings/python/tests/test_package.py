@@ -109,8 +109,9 @@ def test_the_structs_are_those_of_the_header(tmp_path):
     assert told.split("\n")[:-1] == expected
 
 
-#: Calls that save other languages a step: a file's `prove` returns a proof that was read, and it has no limit of its size.
-UNUSED = ["yurewha_part_open_json", "yurewha_part_file_size"]
+#: What Python does in less time than a call takes: the order and the hex text of a hash. And calls that save other languages a step: a
+#: file's `prove` returns a proof that was read, and it has no limit of its size.
+UNUSED = ["yurewha_compare", "yurewha_hex", "yurewha_part_open_json", "yurewha_part_file_size"]
 
 
 def test_each_call_of_the_library_is_used():

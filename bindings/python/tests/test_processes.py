@@ -282,7 +282,7 @@ def test_a_process_that_is_forked_while_a_thread_takes_an_object_over():
     tree, takes, ends = piece(1), threading.Event(), threading.Event()
 
     def take():
-        with _guard._process.now[1]:
+        with _guard.process.now[1]:
             takes.set()
             ends.wait()
 

@@ -62,6 +62,26 @@ def test_bytes_that_were_handed_out_stay():
     assert b"".join(singles) == whole == SOURCE.data and [bytes([byte]) for byte in range(256)] == [b"%c" % byte for byte in range(256)]
 
 
+@pytest.mark.parametrize("number", [1, 2, 5])
+def test_a_read_within_a_read(monkeypatch, number):
+    """As a handler makes one, after the library has written what the first one is about to look at. So do threads."""
+    reader, left = reader_of((0, 500)), []
+    read = _library.bare.yurewha_reader_read
+
+    def spied(*given):
+        status = read(*given)
+        if left:
+            place = left.pop()
+            assert reader.read(place, 70) == (SOURCE.data[place:min(place + 70, 500)], place + 70)
+        return status
+
+    monkeypatch.setattr(_library.bare, "yurewha_reader_read", spied)
+    for _ in range(3):
+        left += [450, *range(10, 10 * number, 10)]
+        assert reader.read(0, 5) == (SOURCE.data[:5], 5) and not left
+        assert reader.read(490, 100) == (SOURCE.data[490:500], 590)
+
+
 def test_of_a_wrong_answer_the_first_right_chunks_are_kept():
     for wrong, right in ((changed(SOURCE.data, 333)[100:600], 200), (SOURCE.data[100:333], 200), (SOURCE.data[101:601], 0), (b"", 0)):
         part, reader = part_of(120, 560), Reader(HASH, SALT, MAX)
@@ -109,7 +129,7 @@ USES = {
 @pytest.mark.parametrize("use", USES)
 def test_each_call_is_made_under_the_locks(monkeypatch, use):
     reader, part, seen = Reader(HASH, SALT, MAX), part_of(0, 50), []
-    for calls in (_library.short, _library.long):
+    for calls in (_library.short, _library.long, _library.bare):
         for name in _declarations.DECLARATIONS:
             def spied(*given, call=getattr(calls, name), name=name):
                 seen.append((name, [item._lock._is_owned() for item in (reader, part) if any(it is item._handle for it in given)]))

@@ -2,6 +2,7 @@
 
 import contextlib
 import ctypes
+import functools
 import gc
 import itertools
 import pickle
@@ -257,13 +258,21 @@ def test_each_call_with_a_handle_is_made_under_its_lock(monkeypatch, make, numbe
     items, unlocked = make(), []
     for item in items:
         item._lock = Noted(item._lock)
-    for calls in (_library.short, _library.long):
+    for calls in (_library.short, _library.long, _library.bare):
         for name in _declarations.DECLARATIONS:
             def spied(*arguments, call=getattr(calls, name), told=name):
                 if any(gets(item, arguments) and not item._lock.held for item in items):
                     unlocked.append(told)
                 return call(*arguments)
             monkeypatch.setattr(calls, name, spied)
+    update = _hash.update_as_given
+
+    def spied_update(*arguments):
+        if not all(item._lock.held for item in items):
+            unlocked.append("update_as_given")
+        return update(*arguments)
+
+    monkeypatch.setattr(_hash, "update_as_given", spied_update)
     USES[make][number](*items)
     assert unlocked == [] and any(item._lock.taken for item in items) and all(item._lock.held == 0 for item in items)
 
@@ -461,14 +470,15 @@ def test_a_handlers_update_counts_or_is_refused(monkeypatch, under_way, given):
         except y.ReentrantCall:
             refused.append(hasher.hash())
 
-    def add(state, *piece, plain=_hash._add):
+    def spied(state, *piece, plain):
         if piece[0] and not interrupted:
             interrupted.append(True)
             signal.raise_signal(signal.SIGUSR1)
-        plain(state, *piece)
+        return plain(state, *piece)
 
     with handled(signal.SIGUSR1, handler):
-        monkeypatch.setattr(_hash, "_add", add)
+        for name in ("_add", "update_as_given"):
+            monkeypatch.setattr(_hash, name, functools.partial(spied, plain=getattr(_hash, name)))
         hasher.update(under_way)
         monkeypatch.undo()
     assert len(taken) + len(refused) == 1

@@ -1,16 +1,19 @@
 """Reference hashes and worked examples."""
 
 import copy
+import ctypes
 import json
+import operator
 import pickle
 import random
+import types
 
 import pytest
 import xet_model as m
 from reference import load
 
 import yurewha as y
-from yurewha import _library
+from yurewha import _hash, _library
 
 REFERENCE = load()
 Z = y.Hash()
@@ -64,6 +67,63 @@ def test_a_hash_is_no_bytes_and_has_the_order_of_its_text():
     hashes = [*map(y.Hash.random_from_seed, range(50)), y.Hash(b"\1" + bytes(31)), y.Hash(bytes(7) + b"\1" + bytes(24))]
     assert sorted(hashes) == sorted(hashes, key=y.Hash.hex) != sorted(hashes, key=bytes)
     assert all(it != it.bytes and it != it.hex() and it.bytes not in {it} for it in hashes)
+
+
+def texts_of_the_library(hash_):
+    """The hex text as the library writes it."""
+    text, length = ctypes.create_string_buffer(64), ctypes.c_size_t()
+    assert _library.short.yurewha_hex(hash_._raw, text, 64, length) == 0 and length.value == 64
+    return text.raw.decode("ascii")
+
+
+#: Bytes that are the same but for one, in each place, and others.
+RAWS = [bytes(32), 32 * b"\xff", bytes(range(32)), *(bytes(place) + byte + bytes(31 - place) for place in range(32) for byte in (b"\1", b"\xff")),
+        *map(random.Random(95).randbytes, 30 * [32])]
+COMPARED = {"<": operator.lt, "<=": operator.le, ">": operator.gt, ">=": operator.ge, "==": operator.eq, "!=": operator.ne}
+
+
+@pytest.mark.parametrize("name", COMPARED)
+def test_hashes_have_the_order_of_the_library(name):
+    """Whether they were compared before, or one of them was, or none."""
+    compared = COMPARED[name]
+    sign = {(one, other): _library.short.yurewha_compare(one, other) for one in RAWS for other in RAWS}
+    for (one, other), order in sign.items():
+        assert compared(y.Hash(one), y.Hash(other)) is compared(order, 0) is compared(m.compare(m.from_bytes(one), m.from_bytes(other)), 0)
+    known, least = list(map(y.Hash, RAWS)), y.Hash(bytes(32))
+    for its, one in zip(known, RAWS):
+        assert its >= least and compared(its, y.Hash(other := RAWS[-1])) is compared(sign[one, other], 0)
+        assert compared(y.Hash(other), its) is compared(sign[other, one], 0)
+    assert all(compared(its, others) is compared(sign[one, other], 0)
+               for its, one in zip(known, RAWS) for others, other in zip(known, RAWS))
+
+
+def test_texts_are_those_of_the_library():
+    for hash_ in map(y.Hash, RAWS):
+        assert str(hash_) == hash_.hex() == texts_of_the_library(hash_) == m.to_hex(m.from_bytes(hash_.bytes))
+        assert hash_.words == tuple(int(hash_.hex()[at:at + 16], 16) for at in range(0, 64, 16))
+
+
+class Everything:
+    """It has whatever it is asked for."""
+
+    def __getattr__(self, name):
+        return self
+
+
+@pytest.mark.parametrize("before", [False, True])
+@pytest.mark.parametrize("other", [
+    bytes(32), 64 * "0", 0, None, (0, 0, 0, 0), object(), Everything(), y.Hasher(),
+    types.SimpleNamespace(_raw=bytes(32), _Hash__in_order=_hash._UNMADE)])
+def test_a_hash_has_no_order_with_anything_else(before, other):
+    it = y.Hash()
+    assert not before or it <= y.Hash()
+    for name, compared in COMPARED.items():
+        if name in ("==", "!="):
+            assert compared(it, other) is compared(other, it) is (name == "!=")
+        else:
+            for pair in ((it, other), (other, it)):
+                with pytest.raises(TypeError):
+                    compared(*pair)
 
 
 def test_formats_of_a_hash():

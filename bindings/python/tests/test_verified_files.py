@@ -1,6 +1,7 @@
 """Files that are read in parts: places, what is fetched, what is refused, and readers over them."""
 
 import contextlib
+import copy
 import ctypes
 import io
 import os
@@ -32,6 +33,12 @@ class Source:
     def prove(self, start, stop):
         self.proved.append((start, stop))
         return self.tree.proof_of_bytes(start, stop)
+
+    def again(self):
+        """The same file, of which nothing was fetched. A thread of another test may still be fetching something of this one."""
+        other = copy.copy(self)
+        other.fetched, other.proved = [], []
+        return other
 
     def open(self, **options):
         return y.VerifiedFile(self.tree.file_hash(), self.fetch, self.prove, **options)

@@ -18,12 +18,21 @@ def named(call: Callable[..., _Result]) -> Callable[..., _Result]:
         try:
             return call(*arguments)
         except ctypes.ArgumentError as error:
-            # It has the text of the error before it, or `???` if there was no stack left to make that.
-            if "RecursionError" in str(error) or str(error).endswith("???"):
-                raise RecursionError("maximum recursion depth exceeded in a call by ctypes") from None
-            raise
+            raise error_in_python(error) from None
 
     return checked
+
+
+def error_in_python(error: ctypes.ArgumentError) -> Exception:
+    """Returns what to raise for an error of ctypes: Python's own error if the stack ended, else the same error.
+
+    >>> error_in_python(ctypes.ArgumentError("argument 1: TypeError: wrong type"))
+    ArgumentError('argument 1: TypeError: wrong type')
+    """
+    # It has the text of the error before it, or `???` if there was no stack left to make that.
+    if "RecursionError" in str(error) or str(error).endswith("???"):
+        return RecursionError("maximum recursion depth exceeded in a call by ctypes")
+    return error
 
 
 memmove = named(ctypes.memmove)

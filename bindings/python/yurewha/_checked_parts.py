@@ -61,6 +61,8 @@ def checked_places(start: SupportsIndex, stop: SupportsIndex) -> Tuple[int, int]
     >>> checked_places(3, 5)
     (3, 5)
     """
+    if type(start) is int and type(stop) is int and 0 <= start <= stop <= _MAX_U64:
+        return start, stop
     begin, end = checked_u64(start, "start"), checked_u64(stop, "stop")
     if end < begin:
         raise InvalidArguments(but_got(f"stop must be at least start, which is {begin}", end))
@@ -161,7 +163,8 @@ class CheckedParts:
 
     def _kept(self, place: int, count: int) -> Found:
         """Returns what is kept of the bytes from a place on, `count` of them or the first piece, and what is missing then."""
-        count = min(count, PIECE)
+        if count > PIECE:
+            count = PIECE
         if place >= (_MAX_U64 if self._size is None else self._size):
             return b"", place
         rescued = self._rescued

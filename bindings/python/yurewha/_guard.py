@@ -34,9 +34,9 @@ class _Process:
         self.now = (self.now[0] + 1, threading.RLock())
 
 
-_process = _Process()
+process = _Process()
 if hasattr(os, "register_at_fork"):
-    os.register_at_fork(after_in_child=_process.forked)
+    os.register_at_fork(after_in_child=process.forked)
 
 
 class Guarded:
@@ -54,11 +54,11 @@ class Guarded:
     def _guard(self) -> None:
         """Makes the lock. This must be the first call on a new object."""
         self._lock = threading.RLock()
-        self._generation = _process.now[0]
+        self._generation = process.now[0]
 
     def _is_ours(self) -> bool:
         """Returns whether no other thread used the object when this process was forked."""
-        generation, taking_over = _process.now
+        generation, taking_over = process.now
         if self._generation == generation:
             return True
         with taking_over:
@@ -70,7 +70,7 @@ class Guarded:
 
     def _locked(self) -> threading.RLock:
         """Returns the lock. Each call on the object must hold it."""
-        if not self._is_ours():
+        if self._generation != process.now[0] and not self._is_ours():
             raise InUseAtFork("this process was forked while another thread used the object")
         return self._lock
 

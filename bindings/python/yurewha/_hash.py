@@ -3,15 +3,16 @@
 from __future__ import annotations
 
 import ctypes
+import struct
 from operator import index
-from typing import TYPE_CHECKING, Callable, NoReturn, SupportsIndex, Tuple, Type, TypeVar, Union, final
+from typing import TYPE_CHECKING, Any, Callable, NoReturn, Optional, SupportsIndex, Tuple, Type, TypeVar, Union, final
 
-from ._calls import memmove
+from ._calls import error_in_python, memmove
 from ._declarations import LENGTHS
 from ._errors import DivisionByZero, InvalidArguments, InvalidText, ReentrantCall, YurewhaError, but_got, counted, error_of, told_text, told_type
-from ._guard import Guarded
+from ._guard import Guarded, process
 from ._lent import Lent, bytes_of, checked_view, in_place, is_read_only, view_of_bytes
-from ._library import LONG_BYTES, CBytes, CHash, CHasher, calls_for, short
+from ._library import LONG_BYTES, CBytes, CHash, CHasher, bare, calls_for, short, update_as_given
 from ._types import BytesLike
 
 __all__ = ["Hash", "Hasher", "data_hash", "internal_node_hash"]
@@ -23,12 +24,16 @@ PIECE = 1 << 20
 STEP = 1 << 25
 # Shorter data is always copied. That is faster than lending it.
 _SHORT = 2048
-_HEX_LENGTH = LENGTHS["YUREWHA_HEX_LENGTH"]
+# So many bytes at most are appended in the shortest way, and what ctypes passes for their number. Nobody writes to these.
+_FEW = 256
+_SIZES = tuple(map(ctypes.c_size_t, range(_FEW + 1)))
 _BASE64_LENGTH = LENGTHS["YUREWHA_BASE64_LENGTH"]
-_CHex = ctypes.c_char * _HEX_LENGTH
 _CBase64 = ctypes.c_char * _BASE64_LENGTH
 
 _Bytes = bytes
+# The four words of a hash, and their bytes as hex text has them: the greatest byte of each word first.
+_words_of = struct.Struct("<4Q").unpack
+_bytes_in_order = struct.Struct(">4Q").pack
 #: The start of bytes that are passed to the library.
 Start = Union[bytes, ctypes.c_char_p]
 _Result = TypeVar("_Result")
@@ -116,12 +121,26 @@ def checked_32(value: BytesLike, what: str) -> bytes:
     return data
 
 
+class _Unmade:
+    """Stands for the bytes in order of a hash, which nobody has needed yet. All that is compared with it gives None."""
+
+    __slots__ = ()
+
+    def __lt__(self, other: object) -> Optional[bool]:
+        return None
+
+    __gt__ = __lt__
+
+
+_UNMADE = _Unmade()
+
+
 @final
 class Hash:
     """A hash: 32 bytes. It is immutable, can be a key of a dict, and is ordered like its hex text.
 
     `Hash()` is the default hash, all of whose bytes are 0. `Hash(b)` has the 32 bytes `b`. `str` and formats give the hex
-    text. For JSON, `default=Hash.hex` writes that text and `Hash.from_hex` reads it.
+    text. For JSON, `default=Hash.hex` writes that text and `Hash.from_hex` reads it. Long lists are sorted soonest with `key=Hash.hex`.
 
     >>> Hash().hex() == 64 * "0"
     True
@@ -133,10 +152,13 @@ class Hash:
     True
     """
 
-    __slots__ = ("_raw",)
+    __slots__ = ("_raw", "__in_order")
 
     # The C struct in memory, 32 bytes.
     _raw: _Bytes
+    # The same bytes, with the greatest byte of each word first. Their order is that of hashes, and Python compares them in one step.
+    # The first comparison makes them, so this is either. What has no such member is no hash.
+    __in_order: _Unmade
 
     def __new__(cls, data: BytesLike = bytes(32)) -> Hash:
         out = CHash()
@@ -148,8 +170,9 @@ class Hash:
 
     @classmethod
     def _of(cls, raw: _Bytes) -> Hash:
-        self = object.__new__(cls)
+        self = _new(cls)
         _set_raw(self, raw)
+        _set_in_order(self, _UNMADE)
         return self
 
     if not TYPE_CHECKING:  # a type checker would let each name be set
@@ -214,11 +237,7 @@ class Hash:
         >>> Hash(bytes(range(32))).hex()[:16]
         '0706050403020100'
         """
-        text, length = _CHex(), ctypes.c_size_t()
-        status = short.yurewha_hex(self._raw, text, _HEX_LENGTH, length)
-        if status:
-            raise error_of(status)
-        return text.raw.decode("ascii")
+        return _bytes_in_order(*_words_of(self._raw)).hex()
 
     def base64(self) -> str:
         """Returns the URL-safe base64 text of the 32 bytes: 43 characters, without padding.
@@ -253,7 +272,7 @@ class Hash:
         >>> Hash(b"\\x01" + bytes(31)).words
         (1, 0, 0, 0)
         """
-        first, second, third, fourth = CHash.from_buffer_copy(self._raw).words
+        first, second, third, fourth = _words_of(self._raw)
         return first, second, third, fourth
 
     def hmac(self, key: Hash) -> Hash:
@@ -278,8 +297,13 @@ class Hash:
             raise error_of(status)
         return out.value
 
-    def _compare(self, other: Hash) -> int:
-        return int(short.yurewha_compare(self._raw, other._raw))
+    def _ordered(self) -> _Bytes:
+        """Returns the bytes in order, and keeps them. Two threads may make them at once, because both make the same."""
+        made: object = self.__in_order
+        if not isinstance(made, _Bytes):
+            made = _bytes_in_order(*_words_of(self._raw))
+            _set_in_order(self, made)
+        return made
 
     def __eq__(self, other: object) -> bool:
         if not isinstance(other, Hash):
@@ -287,22 +311,34 @@ class Hash:
         return self._raw == other._raw
 
     def __lt__(self, other: Hash) -> bool:
-        return self._compare(other) < 0 if isinstance(other, Hash) else NotImplemented
+        try:
+            if (less := self.__in_order < other.__in_order) is not None:
+                return less
+        except AttributeError:
+            return NotImplemented
+        return self._ordered() < other._ordered() if isinstance(other, Hash) else NotImplemented
 
     def __le__(self, other: Hash) -> bool:
-        return self._compare(other) <= 0 if isinstance(other, Hash) else NotImplemented
+        greater = Hash.__gt__(self, other)
+        return greater if greater is NotImplemented else not greater
 
     def __gt__(self, other: Hash) -> bool:
-        return self._compare(other) > 0 if isinstance(other, Hash) else NotImplemented
+        try:
+            if (greater := self.__in_order > other.__in_order) is not None:
+                return greater
+        except AttributeError:
+            return NotImplemented
+        return self._ordered() > other._ordered() if isinstance(other, Hash) else NotImplemented
 
     def __ge__(self, other: Hash) -> bool:
-        return self._compare(other) >= 0 if isinstance(other, Hash) else NotImplemented
+        less = Hash.__lt__(self, other)
+        return less if less is NotImplemented else not less
 
     def __hash__(self) -> int:
         return hash(self._raw)
 
     def __str__(self) -> str:
-        return self.hex()
+        return _bytes_in_order(*_words_of(self._raw)).hex()
 
     def __format__(self, spec: str) -> str:
         return format(self.hex(), spec)
@@ -337,8 +373,10 @@ def raw_of(hash_: object, what: str) -> bytes:
     raise TypeError(but_got(f"{what} must be a Hash or 32 bytes", told_type(hash_)))
 
 
-# Sets the bytes of a new hash. It takes half the time of `object.__setattr__`.
+# These set the members of a hash. They take half the time of `object.__setattr__`.
+_new = object.__new__
 _set_raw: Callable[[Hash, _Bytes], None] = Hash.__dict__["_raw"].__set__
+_set_in_order: Callable[[Hash, object], None] = Hash.__dict__["_Hash__in_order"].__set__
 
 
 def data_hash(data: BytesLike, *, nobody_writes: bool = False) -> Hash:
@@ -353,6 +391,13 @@ def data_hash(data: BytesLike, *, nobody_writes: bool = False) -> Hash:
     >>> data_hash(bytearray(b"abc"), nobody_writes=True) == data_hash(b"abc")
     True
     """
+    if type(data) is bytes and nobody_writes is False and len(data) < LONG_BYTES:  # the shortest way for the most common data
+        out = bytes(32)
+        try:
+            bare.yurewha_data_hash(data, len(data), out)
+        except ctypes.ArgumentError as error:
+            raise error_in_python(error) from None
+        return Hash._of(out)
     return _handed(data, nobody_writes, _data_hashed, _data_hashed_by_pieces)
 
 
@@ -368,17 +413,17 @@ def internal_node_hash(data: BytesLike, *, nobody_writes: bool = False) -> Hash:
 def _data_hashed(start: Start, length: int) -> Hash:
     if length > STEP:
         return Hasher()._hash_in_steps(start, length)
-    out = CHash()
+    out = bytes(32)
     calls_for(length, LONG_BYTES).yurewha_data_hash(start, length, out)
-    return Hash._of(bytes(out))
+    return Hash._of(out)
 
 
 def _node_hashed(start: Start, length: int) -> Hash:
     if length > STEP:
         return Hasher.internal_node()._hash_in_steps(start, length)
-    out = CHash()
+    out = bytes(32)
     calls_for(length, LONG_BYTES).yurewha_internal_node_hash(start, length, out)
-    return Hash._of(bytes(out))
+    return Hash._of(out)
 
 
 def _data_hashed_by_pieces(lent: Lent) -> Hash:
@@ -459,13 +504,15 @@ class Hasher(Guarded):
     True
     """
 
-    __slots__ = ("_state", "_name", "_in_update")
+    __slots__ = ("_state", "_reference", "_name", "_in_update")
 
     digest_size: int = 32
     block_size: int = 64
 
     # It stays in one place. So a call by a signal handler, made between two steps of another call, isn't lost.
     _state: CHasher
+    # What ctypes passes to the library for it.
+    _reference: Any
     _name: str
     # Whether a long update is under way, which overwrites the state at its end.
     _in_update: bool
@@ -474,6 +521,7 @@ class Hasher(Guarded):
         self = object.__new__(cls)
         self._guard()
         self._state = CHasher()
+        self._reference = ctypes.byref(self._state)
         self._name = "yurewha-data"
         self._in_update = False
         short.yurewha_hasher_begin_data(self._state)
@@ -539,6 +587,14 @@ class Hasher(Guarded):
         >>> Hasher(bytearray(b"abc")).count
         3
         """
+        if type(data) is bytes and nobody_writes is False and len(data) <= _FEW:  # the shortest way
+            with self._lock if self._generation == process.now[0] else self._locked():
+                if self._in_update:
+                    self._refuse_reentry()
+                status = update_as_given(self._reference, data, _SIZES[len(data)])
+            if status:
+                raise error_of(status)
+            return
         with self._locked():
             _handed(data, nobody_writes, self._add, self._add_by_pieces)
 
@@ -563,7 +619,7 @@ class Hasher(Guarded):
         try:
             state = CHasher.from_buffer_copy(self._state)
             add(state)
-            memmove(ctypes.byref(self._state), ctypes.byref(state), ctypes.sizeof(CHasher))
+            memmove(self._reference, ctypes.byref(state), ctypes.sizeof(CHasher))
         finally:
             self._in_update = False
 
@@ -581,10 +637,10 @@ class Hasher(Guarded):
         >>> Hasher().hash() == data_hash(b"")
         True
         """
-        out = CHash()
+        out = bytes(32)
         with self._locked():
             short.yurewha_hasher_finalize(self._state, out)
-        return Hash._of(bytes(out))
+        return Hash._of(out)
 
     def digest(self) -> bytes:
         """Returns the 32 bytes of the hash.
@@ -612,7 +668,7 @@ class Hasher(Guarded):
         other = Hasher()
         with self._locked():
             other._name = self._name
-            other._state = CHasher.from_buffer_copy(self._state)
+            memmove(other._reference, self._reference, ctypes.sizeof(CHasher))
         return other
 
     def __copy__(self) -> Hasher:

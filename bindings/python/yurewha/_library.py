@@ -1,7 +1,8 @@
 """The shared library: where it is found, and its calls by ctypes.
 
 Each call exists twice. `short` keeps the interpreter's lock while it runs, and `long` releases it. The choice affects only
-speed. With either, no two threads use an object at once, because each object has its own lock (`_guard.py`).
+speed. With either, no two threads use an object at once, because each object has its own lock (`_guard.py`). `bare` has the calls of
+`short` without a step between: who makes one has to raise `error_in_python` of an error of ctypes.
 """
 
 from __future__ import annotations
@@ -130,6 +131,13 @@ _TYPES: Dict[str, Any] = {
     **{f"{name} *": ctypes.POINTER(struct) for name, struct in STRUCT_TYPES.items()},
 }
 
+#: Calls that are often made for a few bytes. So they take what ctypes passes in the least time. A hash is written to a new `bytes`
+#: object of 32 bytes, which nobody else has seen. A number is passed as an address is: on these machines both have 64 bits, and the
+#: same place.
+_QUICK = ("yurewha_data_hash", "yurewha_internal_node_hash", "yurewha_hasher_update", "yurewha_hasher_finalize", "yurewha_reader_read")
+_QUICK_TYPES: Dict[str, Any] = {
+    **_TYPES, "yurewha_hash *": ctypes.c_void_p, "size_t": ctypes.c_void_p, "uint64_t": ctypes.c_void_p}
+
 
 def find(package: Optional[Path] = None) -> str:
     """Returns the path of the library, or its bare name if the system's loader must find it.
@@ -156,17 +164,20 @@ def find(package: Optional[Path] = None) -> str:
     return NAME
 
 
-def _declare(library: Any, path: str) -> SimpleNamespace:
-    calls = SimpleNamespace()
+def _declare(library: Any, path: str) -> Tuple[SimpleNamespace, SimpleNamespace]:
+    """Returns the calls as they are, and the same with errors of Python."""
+    plain, calls = SimpleNamespace(), SimpleNamespace()
     for name, (answer, arguments) in DECLARATIONS.items():
         try:
             call = getattr(library, name)
         except AttributeError:
             raise ImportError(f"yurewha: {path} has no {name}") from None
         call.restype = _TYPES[answer]
-        call.argtypes = [_TYPES[argument] for argument in arguments]
+        types = _QUICK_TYPES if name in _QUICK else _TYPES
+        call.argtypes = [types[argument] for argument in arguments]
+        setattr(plain, name, call)
         setattr(calls, name, named(call))
-    return calls
+    return plain, calls
 
 
 def _check_machine() -> None:
@@ -196,8 +207,12 @@ except OSError as error:
     raise ImportError(f"yurewha: {NAME} can't be loaded; YUREWHA_LIB_DIR may name its folder: {error}") from error
 _short = ctypes.PyDLL(PATH, handle=_long._handle)
 
-long = _declare(_long, PATH)
-short = _declare(_short, PATH)
+_, long = _declare(_long, PATH)
+bare, short = _declare(_short, PATH)
+#: `yurewha_hasher_update` of `short`, to which ctypes passes each argument as it is given: a reference to a state, `bytes`, and their
+#: number as a `c_size_t`. Without conversions a call takes less time, and the end of the stack is no wrong argument.
+update_as_given = _short["yurewha_hasher_update"]
+update_as_given.restype = ctypes.c_uint32
 
 #: The level of processors that the library has chosen for this one, such as "x86-64-v3".
 LEVEL: str = short.yurewha_processor_level().decode("ascii")

@@ -3,13 +3,14 @@
 from __future__ import annotations
 
 import ctypes
-from typing import Optional, Tuple
+from typing import List, Optional, Tuple
 
+from ._calls import error_in_python
 from ._declarations import STATUSES
 from ._errors import ProofMismatch, error_of
 from ._guard import Handle, both_locked
 from ._interrupts import MANY_BYTES, MANY_NODES, interruptible
-from ._library import LONG_BYTES, LONG_NODES, CPart, CReader, calls_for, short
+from ._library import LONG_BYTES, LONG_NODES, CPart, CReader, bare, calls_for, long, short
 from ._range_proof import RangeProof
 
 #: From so many bytes on, they are copied without the interpreter's lock.
@@ -27,13 +28,15 @@ class Reader(Handle):
     ((b'', 5), None, 0)
     """
 
-    __slots__ = ()
+    __slots__ = ("_spare",)
 
     _handle: CReader
+    # Pairs of numbers for the library to write to, which no read uses now.
+    _spare: List[Tuple[ctypes.c_size_t, ctypes.c_uint64]]
 
     def __init__(self, file_hash: bytes, salt: bytes, most: int) -> None:
         self._guard()
-        self._handle = CReader()
+        self._handle, self._spare = CReader(), []
         status = short.yurewha_reader_new(file_hash, salt, most, self._handle)
         if status:
             raise error_of(status)
@@ -43,13 +46,24 @@ class Reader(Handle):
     def read(self, place: int, count: int) -> Tuple[bytes, int]:
         """Returns the bytes that are kept from a place on, at most `count`, and up to where bytes are missing after them."""
         # A new object, which nobody else has seen. The library writes the bytes to it.
-        room, filled, end = bytes(count), ctypes.c_size_t(), ctypes.c_uint64()
-        with self._locked():
-            status = calls_for(count, _LONG_COPY).yurewha_reader_read(self._handle, place, room, count, count, filled, end)
+        room = bytes(count)
+        # Nobody else has these either, until they are given back: a handler that reads in between takes others.
+        try:
+            pair = self._spare.pop()
+        except IndexError:
+            pair = ctypes.c_size_t(), ctypes.c_uint64()
+        filled, end = pair
+        read = (bare if count < _LONG_COPY else long).yurewha_reader_read
+        try:
+            with self._locked():
+                status = read(self._handle, place, room, count, count, filled, end)
+        except ctypes.ArgumentError as error:
+            raise error_in_python(error) from None
         if status:
             raise error_of(status)
-        number = filled.value
-        return room if number == count else room[:number], end.value
+        number, missing = filled.value, end.value
+        self._spare.append(pair)
+        return room if number == count else room[:number], missing
 
     def needs(self, start: int, stop: int) -> int:
         """Returns up to where bytes are missing from a place on, if none of it is kept."""
