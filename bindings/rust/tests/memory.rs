@@ -608,6 +608,24 @@ fn chunks_wait_for_threads_that_hash_and_not_in_memory() {
     }
 }
 
+// This thread reads the chunks. It makes few requests beside those for their data: for the threads, and for what it returns.
+#[test]
+fn buffers_of_chunks_are_used_again_unless_they_are_long() {
+    let hashed = |length: usize, count: usize| {
+        let lengths = vec![length; count];
+        let chunks = own::hash_chunks(io::repeat(0), lengths, NonZeroUsize::MIN).unwrap();
+        assert_eq!(
+            chunks,
+            vec![(compute_data_hash(&vec![0; length]), length as u64); count]
+        );
+    };
+    let of_short = requests(|| hashed(1000, 2000));
+    assert!(of_short < 200, "{of_short}");
+    // The buffer of each gets room seven times, from 64 KiB on, and isn't used again.
+    let of_long = requests(|| hashed(3 << 20, 12));
+    assert!((84..200).contains(&of_long), "{of_long}");
+}
+
 #[test]
 fn other_calls_take_no_memory() {
     let nodes = nodes(60);
