@@ -31,8 +31,8 @@ type Spare = Mutex<Vec<Vec<u8>>>;
 /// [`file_hash`](crate::merklehash::file_hash) or [`xorb_hash`](crate::merklehash::xorb_hash) takes it.
 ///
 /// Nothing here cuts chunks: the lengths are those of a Xet client's chunks. What comes after the last chunk isn't read.
-/// Memory grows with the data that comes, not with a length that is only claimed. Buffers of at most a MiB are used again, so there are
-/// no more of them than chunks that were read and aren't hashed yet.
+/// Memory grows with the data that comes, not with a length that is only claimed. Buffers of at most a MiB are used again for later
+/// chunks.
 ///
 /// ```
 /// use std::num::NonZeroUsize;
