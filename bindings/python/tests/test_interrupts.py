@@ -244,7 +244,7 @@ class Reading:
         deadline = time.monotonic() + 60
         while _thread._count() > self.threads and time.monotonic() < deadline:
             time.sleep(0.001)
-        assert _thread._count() == self.threads, "a thread waits for ever"
+        assert _thread._count() <= self.threads, "a thread waits for ever"  # one of an earlier test may have ended, too
 
 
 def raises_at(step, begins, call):
@@ -510,3 +510,28 @@ def test_where_no_thread_can_be_started(monkeypatch):
 
     monkeypatch.setattr("_thread.start_new_thread", start)
     assert _interrupts.interruptible(lambda: 7, True) == 7
+
+
+@pytest.mark.parametrize("step", ["the first", "the one after work was taken"])
+def test_where_threads_end_before_their_work(monkeypatch, step):
+    """A thread that finds no memory for a step ends. Nobody waits for it for ever: its work is done where it is waited for, or refused."""
+    def start(run, given):
+        return really_start(run if step != "the first" else lambda *_: None, given)
+
+    def refused(outcome, work):
+        raise MemoryError
+
+    really_start = _thread.start_new_thread
+    monkeypatch.setattr("_thread.start_new_thread", start)
+    if step != "the first":
+        monkeypatch.setattr(_interrupts.Outcome, "take", refused)
+        monkeypatch.setattr(sys, "unraisablehook", lambda _: None)
+    before = signal.signal(signal.SIGALRM, lambda *_: (_ for _ in ()).throw(TimeoutError))
+    signal.alarm(60)
+    try:
+        assert _interrupts.interruptible(lambda: 7, True) == 7
+        with pytest.raises(MemoryError, match="a thread had no memory for its work"):
+            list(_in_threads.in_threads(lambda piece, _: piece, range(1000), 2))
+    finally:
+        signal.alarm(0)
+        signal.signal(signal.SIGALRM, before)

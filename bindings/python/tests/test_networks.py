@@ -1,5 +1,6 @@
 """Files over a network: parts read by threads at once, by tasks, and ahead; and servers that lie, cut off, come late or die."""
 
+import _thread
 import asyncio
 import contextlib
 import io
@@ -646,6 +647,13 @@ def test_where_no_thread_can_be_started(monkeypatch):
     file = GREAT.open(read_ahead=8 << 20)
     monkeypatch.setattr("_thread.start_new_thread", start)
     assert in_steps(file, 1 << 20) == GREAT.data
+
+
+def test_where_threads_end_before_they_read(monkeypatch):
+    file, really_start = GREAT.open(read_ahead=8 << 20), _thread.start_new_thread
+    monkeypatch.setattr("_thread.start_new_thread", lambda run, given: really_start(lambda *_: None, given))
+    with at_most(60):
+        assert in_steps(file, 1 << 20) == GREAT.data
 
 
 @contextlib.contextmanager

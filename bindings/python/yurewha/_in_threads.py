@@ -2,8 +2,8 @@
 
 from __future__ import annotations
 
-import _thread
 import time
+import weakref
 from collections import deque
 from functools import partial
 from itertools import islice
@@ -11,7 +11,7 @@ from typing import Callable, Deque, Generator, Generic, Iterable, Iterator, List
 
 from ._errors import InvalidArguments, but_got
 from ._hash import checked_u64
-from ._interrupts import Outcome, waited
+from ._interrupts import Alive, Outcome, started, waited
 
 _Piece = TypeVar("_Piece")
 _Result = TypeVar("_Result")
@@ -94,6 +94,8 @@ class _Crew(Generic[_Piece, _Result]):
         self._free_places: List[None] = []
         # One item for each thread that is at work.
         self._at_work: List[None] = []
+        # The threads that were alive when the last one was started.
+        self._threads: List[weakref.ReferenceType[Alive]] = []
 
     @property
     def _working(self) -> int:
@@ -105,11 +107,15 @@ class _Crew(Generic[_Piece, _Result]):
 
     def handed(self, pieces: List[_Piece]) -> Outcome[_Done[_Result]]:
         """Hands some pieces over. Starts a thread if there is a place for one."""
-        outcome: Outcome[_Done[_Result]] = Outcome()
+        outcome: Outcome[_Done[_Result]] = Outcome(self._is_alive)
         self._left.append((pieces, outcome))
         if self._has_taken_a_place():
-            _thread.start_new_thread(self._run, ())
+            self._threads = [*(thread for thread in self._threads if thread()), started(self._run)]
         return outcome
+
+    def _is_alive(self) -> bool:
+        """Returns whether a thread may yet do what is left."""
+        return any(thread() for thread in self._threads)
 
     def _has_taken_a_place(self) -> bool:
         try:
@@ -118,7 +124,7 @@ class _Crew(Generic[_Piece, _Result]):
             return next(self._new_places, None) is not None
         return True
 
-    def _run(self) -> None:
+    def _run(self, _: Alive) -> None:
         """Works until nothing is left. What is handed over while it ends is seen here, or by whoever has taken the place."""
         while True:
             try:

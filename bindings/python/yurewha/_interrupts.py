@@ -4,7 +4,8 @@ from __future__ import annotations
 
 import _thread
 import threading
-from typing import Callable, Generic, List, Sequence, TypeVar
+import weakref
+from typing import Callable, Generic, Optional, Sequence, TypeVar, cast
 
 from ._guard import Guarded, all_locked
 
@@ -18,19 +19,50 @@ MANY_BYTES = 1 << 24
 WAIT = 0.05
 
 
+class Alive:
+    """Something that a thread alone has, so that a weak reference to it tells when the thread has ended."""
+
+    __slots__ = ("__weakref__",)
+
+
+def started(run: Callable[[Alive], object]) -> weakref.ReferenceType[Alive]:
+    """Starts a thread, and returns a reference that gives None once it has ended. Raises `RuntimeError` if no thread can be started.
+
+    A thread that finds no memory for its first step ends without a word.
+    """
+    alive = Alive()
+    seen = weakref.ref(alive)
+    _thread.start_new_thread(run, (alive,))
+    return seen
+
+
+class ThreadLost(MemoryError):
+    """A thread ended before it could begin its work, because memory ran out."""
+
+
+def _somebody() -> bool:
+    return True
+
+
 class Outcome(Generic[_Result]):
     """What some work in another thread comes to. One thread waits for it.
 
-    It has a plain lock and two lists, because a handler that raises leaves nothing half changed in them. In a `Future` it does.
+    To tell it takes no memory, of which there may be none when the work is done. A handler that raises leaves nothing half changed, as it
+    does in a `Future`. `teller` gives something true as long as a thread may yet tell it.
     """
 
-    __slots__ = ("_end", "_results", "_errors")
+    __slots__ = ("_end", "_result", "_error", "_has_come", "teller")
 
-    def __init__(self) -> None:
-        self._results: List[_Result] = []
-        self._errors: List[BaseException] = []
+    def __init__(self, teller: Callable[[], object] = _somebody) -> None:
+        self._result: Optional[_Result] = None
+        self._error: Optional[BaseException] = None
+        self._has_come, self.teller = False, teller
         self._end = _thread.allocate_lock()
         self._end.acquire()
+
+    def begin(self, work: Callable[[], _Result]) -> None:
+        """Starts a thread that does the work. Raises `RuntimeError` if no thread can be started."""
+        self.teller = started(lambda _: self.take(work))
 
     def take(self, work: Callable[[], _Result]) -> None:
         """Does the work, and has what it returns or raises.
@@ -39,9 +71,10 @@ class Outcome(Generic[_Result]):
         7
         """
         try:
-            self._results.append(work())
+            self._result = work()
         except BaseException as error:
-            self._errors.append(error)
+            self._error = error
+        self._has_come = True
         self._end.release()
 
     def has_come(self) -> bool:
@@ -50,7 +83,15 @@ class Outcome(Generic[_Result]):
         >>> Outcome().has_come()
         False
         """
-        return bool(self._results or self._errors)
+        return self._has_come
+
+    def is_lost(self) -> bool:
+        """Returns whether nobody will tell it any more.
+
+        >>> Outcome().is_lost(), Outcome(lambda: None).is_lost()
+        (False, True)
+        """
+        return not self.teller() and not self._has_come
 
 
 def waited(outcome: Outcome[_Result]) -> _Result:
@@ -59,11 +100,13 @@ def waited(outcome: Outcome[_Result]) -> _Result:
     >>> outcome = Outcome(); outcome.take(lambda: 7); waited(outcome)
     7
     """
-    while not outcome.has_come():
+    while not outcome._has_come:
         outcome._end.acquire(timeout=WAIT)
-    for error in outcome._errors:
-        raise error
-    return outcome._results[0]
+        if outcome.is_lost():
+            raise ThreadLost("a thread had no memory for its work")
+    if outcome._error is not None:
+        raise outcome._error
+    return cast(_Result, outcome._result)
 
 
 def interruptible(work: Callable[[], _Result], is_long: bool, *used: Guarded) -> _Result:
@@ -84,14 +127,20 @@ def interruptible(work: Callable[[], _Result], is_long: bool, *used: Guarded) ->
         return work()
     task = _Task(work, used)
     try:
-        _thread.start_new_thread(task.do, ())
+        task.outcome.begin(task.result)
     except RuntimeError:
-        return work()  # no thread can be started
+        if task.claimed():
+            return work()  # no thread can be started
+        raise
     except BaseException:
         task.claimed()
         raise
     try:
-        return waited(task.outcome)[0]
+        return cast(_Result, waited(task.outcome))
+    except ThreadLost:
+        if task.claimed():
+            return work()  # the thread ended before it began the work
+        raise
     except BaseException:
         task.claimed()
         raise
@@ -103,18 +152,15 @@ class _Task(Generic[_Result]):
     def __init__(self, work: Callable[[], _Result], used: Sequence[Guarded]) -> None:
         self._work, self._used = work, used
         self._claim = _thread.allocate_lock()
-        #: The result, or none if nobody waited for it any more.
-        self.outcome: Outcome[List[_Result]] = Outcome()
+        #: What the work came to, or None if nobody waited for it any more.
+        self.outcome: Outcome[Optional[_Result]] = Outcome()
 
     def claimed(self) -> bool:
         """Returns True once: to the thread that begins the work, or to the one that no longer waits for it."""
         return self._claim.acquire(blocking=False)
 
-    def do(self) -> None:
+    def result(self) -> Optional[_Result]:
         """Does the work, unless nobody waits for it. Before it is begun it has the locks, so that nobody sees an object as it was."""
-        self.outcome.take(self._results)
-
-    def _results(self) -> List[_Result]:
         with all_locked(self._used):
-            return [self._work()] if self.claimed() else []
+            return self._work() if self.claimed() else None
         raise AssertionError("an exit stack swallows nothing")

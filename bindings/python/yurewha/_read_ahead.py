@@ -2,12 +2,11 @@
 
 from __future__ import annotations
 
-import _thread
 import os
 from functools import partial
 from typing import Callable, List, Optional
 
-from ._interrupts import Outcome, waited
+from ._interrupts import Outcome, ThreadLost, waited
 
 #: Reads the bytes from a place up to another one.
 Read = Callable[[int, int], memoryview]
@@ -93,7 +92,7 @@ def _begin(read: Read, piece: _Piece) -> None:
     if piece.coming is None:
         coming: Outcome[memoryview] = Outcome()
         try:
-            _thread.start_new_thread(coming.take, (partial(read, piece.begin, piece.end),))
+            coming.begin(partial(read, piece.begin, piece.end))
         except RuntimeError:
             return  # no thread can be started
         piece.coming = coming
@@ -106,6 +105,9 @@ def _come(read: Read, piece: _Piece) -> memoryview:
         return read(piece.begin, piece.end)
     try:
         return waited(coming)
+    except ThreadLost:
+        piece.coming = None
+        return read(piece.begin, piece.end)
     except BaseException:
         if coming.has_come():
             piece.coming = None
