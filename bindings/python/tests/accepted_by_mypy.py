@@ -23,6 +23,9 @@ hashes = y.data_hashes(memoryview(b"abc"), range(0, 4), nobody_writes=True)
 hashes = y.hash_chunks("data", [0, 3])
 hashes = y.hash_chunks(pathlib.Path("data"), array.array("q", [0, 3]), progress=lambda done, total: print(done / total))
 hashes = y.hash_chunks(b"data", range(3), progress=None)
+with open("data", "rb") as stream:
+    cut: y.Chunks = y.Chunks(y.hash_cuts(stream, lambda pieces: map(len, pieces)))
+    sizes_of_cuts: List[int] = [size for _, size in y.hash_cuts(stream, [1, 2])]
 
 # Hashes and hashers.
 names: Dict[y.Hash, str] = {root: "abc", y.Hash(): "none", y.Hash(memoryview(bytes(32))): "zeros"}

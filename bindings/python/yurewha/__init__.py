@@ -14,6 +14,7 @@ from __future__ import annotations
 from . import _names
 from ._async_verified_file import AsyncVerifiedFile
 from ._chunks import Chunks
+from ._cuts import hash_cuts
 from ._errors import (
     BrokenRule,
     DivisionByZero,
@@ -100,6 +101,7 @@ __all__ = [
     "find_stable_end",
     "find_stable_start",
     "hash_chunks",
+    "hash_cuts",
     "internal_node_hash",
     "svg_of",
     "write_svg",

@@ -16,6 +16,11 @@ if TYPE_CHECKING:
 
         def tobytes(self) -> bytes: ...
 
+    class Readable(Protocol):
+        """A stream of bytes. It gives at most as many as it is asked for, and none at its end."""
+
+        def read(self, size: int, /) -> bytes: ...
+
     class Texts(Protocol):
         """A list of texts, or any other collection of them. A `str` doesn't pass for one, as it would for an `Iterable[str]`,
         because its `in` takes nothing but a `str`."""
@@ -31,6 +36,7 @@ if TYPE_CHECKING:
 else:
     BytesLike = Union[bytes, bytearray, memoryview]
     Room = Union[bytearray, memoryview]
+    Readable = object
     Texts = Iterable[str]
     Array = Union[bytes, bytearray, memoryview]
 

@@ -418,6 +418,78 @@ test("chunks of a stream need all of their bytes, no more of it is read, and pie
     await assert.rejects(y.hashChunks(failing, [0, 1]), new Error("lost"));
 });
 
+const all = async (chunks) => {
+    const found = [];
+    for await (const [hash, size] of chunks) found.push([String(hash), size]);
+    return found;
+};
+
+/** A chunker that knows its cuts, and gives each once it was given the bytes before it. */
+const knowing = (cuts) =>
+    async function* (pieces) {
+        let [place, next] = [0, 0];
+        for await (const piece of pieces) {
+            place += piece.length;
+            while (next < cuts.length && cuts[next] <= place) yield cuts[next++];
+        }
+    };
+
+test("a stream is cut and hashed in one pass, wherever the pieces end", async () => {
+    const data = bytesOf(300_000);
+    for (const cuts of [[], [1], [300_000], [0, 0, 1, 1, 70_000, 200_000, 300_000], [131_072, 131_073, 299_999]]) {
+        const offsets = [0, ...cuts, ...(cuts.at(-1) === 300_000 ? [] : [300_000])];
+        const wanted = y.dataHashes(data, offsets).map((hash, k) => [String(hash), offsets[k + 1] - offsets[k]]);
+        for (const length of [997, 65_536, 300_000]) {
+            const pieces = Array.from({ length: Math.ceil(300_000 / length) }, (_, k) => data.subarray(k * length, (k + 1) * length));
+            for (const given of [cuts, cuts.map(BigInt), ReadableStream.from(cuts), knowing(cuts)]) {
+                assert.deepEqual(await all(y.hashCuts(ReadableStream.from(pieces), given)), wanted, `${cuts} in pieces of ${length}`);
+            }
+        }
+        assert.deepEqual(await all(y.hashCuts(new Blob([data]), knowing(cuts))), wanted);
+    }
+    assert.deepEqual([await all(y.hashCuts([], [])), await all(y.hashCuts([new Uint8Array()], knowing([])))], [[], []]);
+});
+
+test("a chunk of a stream comes before the next is read, from pieces that change afterwards, and the stream is let go", async () => {
+    let [given, cancelled] = [0, 0];
+    const piece = new Uint8Array(10);
+    const stream = new ReadableStream({
+        pull: (controller) => controller.enqueue(piece.fill(given++)),
+        cancel: () => void cancelled++,
+    }, { highWaterMark: 0 });
+    const chunks = y.hashCuts(stream, knowing([10, 30, 35]));
+    assert.equal(given, 0);
+    assert.deepEqual([String((await chunks.next()).value[0]), given], [String(y.dataHash(new Uint8Array(10))), 1]);
+    const second = new Uint8Array([...new Array(10).fill(1), ...new Array(10).fill(2)]);
+    assert.deepEqual([String((await chunks.next()).value[0]), given], [String(y.dataHash(second)), 3]);
+    await chunks.return();
+    assert.equal(cancelled, 1);
+});
+
+test("cuts rise, are within the data, and a chunker's are of bytes that it was given", async () => {
+    const few = () => [new Uint8Array(2), new Uint8Array(1)];
+    const table = [
+        [[2, 1], "a cut must be at least the one before it, 2, got 1"],
+        [[4], "a cut must be at most the number of bytes, 3, got 4"],
+        [() => [1], "a chunker's cut must be at most the number of bytes that it was given, 0, got 1"],
+        [async function* (pieces) {
+            yield (await pieces.next()).value.length + 1;
+        }, "a chunker's cut must be at most the number of bytes that it was given, 2, got 3"],
+    ];
+    for (const [cuts, message] of table) await assert.rejects(all(y.hashCuts(few(), cuts)), { name: "InvalidArguments", message });
+    for (const source of [["text"], ReadableStream.from([5]), null, 5]) await assert.rejects(all(y.hashCuts(source, [1])), TypeError);
+    for (const cuts of [5, null, ["1"], [0.5]]) await assert.rejects(all(y.hashCuts(few(), cuts)), TypeError);
+    const found = [];
+    const failing = ReadableStream.from((function* () {
+        yield new Uint8Array(5);
+        throw new Error("lost");
+    })());
+    await assert.rejects(async () => {
+        for await (const [hash] of y.hashCuts(failing, [2, 4, 6])) found.push(String(hash));
+    }, new Error("lost"));
+    assert.deepEqual(found, Array(2).fill(String(y.dataHash(new Uint8Array(2)))));
+});
+
 test("short pieces of a stream go to the module in long ones, in their order", async () => {
     const lengths = [];
     const { yurewha: it } = await wrapped(BYTES, (exports) => ({
@@ -758,7 +830,7 @@ test("each declared name is there, and each that is there is declared", () => {
 test("the examples of the declarations print what they say", async () => {
     const declared = readFileSync(new URL("bindings/wasm/yurewha/index.d.ts", ROOT), "utf8");
     const examples = [...declared.matchAll(/^ *\* ```js\n([^]*?)^ *\* ```$/gm)].map(([, lines]) => lines.replace(/^ *\* ?/gm, ""));
-    assert.equal(examples.length, 19);
+    assert.equal(examples.length, 20);
     for (const example of examples) {
         const printed = [];
         const run = new (async () => {}).constructor("y", "load", "console", example);

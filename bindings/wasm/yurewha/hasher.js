@@ -161,6 +161,61 @@ async function* piecesOf(stream) {
     }
 }
 
+/** The pieces of a `Blob`, of a stream or of what gives pieces. */
+const piecesFrom = (source) =>
+    source instanceof Blob ? piecesOf(source.stream()) : typeof source?.getReader === "function" ? piecesOf(source) : source;
+
+/** What is left of a message that comes in pieces: those that came and are not hashed yet, and those that did not come. */
+class Left {
+    /** How many bytes were hashed, and how many came. */
+    place = 0;
+    end = 0;
+    #coming;
+    #came = [];
+    #begin;
+
+    constructor(source, begin) {
+        const pieces = piecesFrom(source);
+        this.#coming = pieces[Symbol.asyncIterator]?.() ?? pieces[Symbol.iterator]();
+        this.#begin = begin;
+    }
+
+    /** Waits for the pieces, one after another. What is hashed is a copy, because the caller's may change before a chunk ends. */
+    async *pieces() {
+        for (let it = await this.#coming.next(); !it.done; it = await this.#coming.next()) {
+            const piece = bytes(it.value, "a piece of data");
+            if (piece.length === 0) continue;
+            this.#came.push(piece.slice());
+            this.end += piece.length;
+            yield piece;
+        }
+    }
+
+    /** Whether there is another byte. */
+    async hasMore() {
+        return this.#came.length > 0 || !(await this.pieces().next()).done;
+    }
+
+    /** The hash and the size of the chunk that ends after so many bytes, or with the message. */
+    async chunk(end = Infinity) {
+        const [from, message] = [this.place, this.#begin()];
+        while (this.place < end && (await this.hasMore())) {
+            const piece = this.#came.shift();
+            const part = piece.subarray(0, end - this.place);
+            message.add(part);
+            this.place += part.length;
+            if (part.length < piece.length) this.#came.unshift(piece.subarray(part.length));
+        }
+        if (this.place < end && end < Infinity) throw new InvalidArguments(mustBe("a cut", `be at most the number of bytes, ${this.end}`, end));
+        return [message.digest(), this.place - from];
+    }
+
+    /** Lets the source go, which may have more. */
+    async close() {
+        await this.#coming.return?.();
+    }
+}
+
 /** Offsets in a message of some length, as Numbers, none of which is less than the one before it. */
 function checkedOffsets(offsets, length) {
     if (offsets.length === 0) throw new InvalidArguments(mustBe("the number of offsets", "be at least 1", 0));
@@ -221,8 +276,7 @@ export function makeHashing(library, hashes) {
         const places = checkedOffsets(listed, isBlob ? source.size : Number.MAX_SAFE_INTEGER);
         const [first, last] = [places[0], places.at(-1)];
         const chunks = new Chunked(places, () => new Gathered(new Hasher()), isBlob ? first : 0);
-        const pieces = isBlob ? piecesOf(source.slice(first, last).stream()) : typeof source?.getReader === "function" ? piecesOf(source) : source;
-        for await (const piece of pieces) {
+        for await (const piece of piecesFrom(isBlob ? source.slice(first, last) : source)) {
             chunks.add(piece);
             if (chunks.at >= last) break;
         }
@@ -230,6 +284,22 @@ export function makeHashing(library, hashes) {
         return chunks.hashes;
     }
 
+    async function* hashCuts(source, cuts) {
+        const left = new Left(source, () => new Gathered(new Hasher()));
+        const isChunker = typeof cuts === "function";
+        try {
+            for await (const cut of isChunker ? cuts(left.pieces()) : cuts) {
+                const end = Number(u64(cut, "a cut"));
+                if (end < left.place) throw new InvalidArguments(mustBe("a cut", `be at least the one before it, ${left.place}`, end));
+                if (isChunker && end > left.end) throw new InvalidArguments(mustBe("a chunker's cut", `be at most the number of bytes that it was given, ${left.end}`, end));
+                yield await left.chunk(end);
+            }
+            if (await left.hasMore()) yield await left.chunk();
+        } finally {
+            await left.close();
+        }
+    }
+
     const internalNodeHash = whole("yurewha_internal_node_hash", () => Hasher.internalNode());
-    return { Hasher, dataHash, dataHashes, hashChunks, hashStream, internalNodeHash };
+    return { Hasher, dataHash, dataHashes, hashChunks, hashCuts, hashStream, internalNodeHash };
 }

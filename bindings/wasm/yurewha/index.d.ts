@@ -113,6 +113,31 @@ export interface Yurewha {
         source: Blob | ReadableStream<Uint8Array> | AsyncIterable<Uint8Array> | Iterable<Uint8Array>, offsets: Iterable<U64>,
     ): Promise<Hash[]>;
 
+    /** Yields the hash and the size of each chunk of a file or of what gives pieces, once the chunk came. Each byte is read once.
+     *
+     * `cuts` says where chunks end, in bytes from the beginning. The last chunk ends with the data. `cuts` gives numbers, or is a chunker: a
+     * function that gets the pieces as they come, and gives the numbers. Until it has given a cut, copies of the pieces after the last one
+     * are kept. Nothing here is Xet's chunker.
+     * @throws InvalidArguments a cut is less than the one before it, is past the end, or is one of a chunker that wasn't given so many bytes
+     *
+     * @example
+     * ```js
+     * async function* afterEachLine(pieces) {
+     *     let place = 0;
+     *     for await (const piece of pieces) {
+     *         for (const byte of piece) if (++place && byte === 10) yield place;
+     *     }
+     * }
+     * const chunks = [];
+     * for await (const chunk of y.hashCuts(new Blob(["a line\nanother\nthe rest"]), afterEachLine)) chunks.push(chunk);
+     * console.log(chunks.map(([hash, size]) => size), y.fileHash(chunks).hex().slice(0, 8)); // [ 7, 8, 8 ] fc6e834f
+     * ```
+     */
+    hashCuts(
+        source: Blob | ReadableStream<Uint8Array> | AsyncIterable<Uint8Array> | Iterable<Uint8Array>,
+        cuts: Iterable<U64> | AsyncIterable<U64> | ((pieces: AsyncIterable<Uint8Array>) => Iterable<U64> | AsyncIterable<U64>),
+    ): AsyncGenerator<[hash: Hash, size: number], void, undefined>;
+
     /** Returns the hash of a chunk whose data comes in pieces, from a stream, such as that of a `Blob` or of Node, or from any other
      * iterable. It is the same as that of `dataHash`. A piece that isn't a `Uint8Array` is a `TypeError`; the stream is then
      * cancelled. Short pieces are gathered, so that many of them take hardly longer than a few long ones.
