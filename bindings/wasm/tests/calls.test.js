@@ -384,7 +384,7 @@ test("whatever gives pieces is hashed, and ended at a piece that is none", async
 
 test("the chunks of a file, of a stream and of other pieces have their hashes, wherever the pieces end", async () => {
     const data = bytesOf(300_000);
-    for (const offsets of [[0, 300_000], [0, 0, 1, 1, 70_000, 200_000, 300_000], [5, 5, 9, 131_072, 131_073, 299_999], [7], [0], [300_000, 300_000]]) {
+    for (const offsets of [[0, 300_000], [0, 0, 1, 1, 70_000, 200_000, 300_000], [5, 5, 9, 131_072, 131_073, 299_999], [7], [0], [300_000, 300_000], [9, 300_000, 300_000, 300_000]]) {
         const wanted = y.dataHashes(data, offsets).map(String);
         for (const length of [1, 997, 65_536, 300_000]) {
             if (length === 1 && offsets.at(-1) > 9) continue;
