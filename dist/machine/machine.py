@@ -8,9 +8,10 @@ neither its branches nor its addresses depend on the data. What is different for
 from __future__ import annotations
 
 from abc import ABC, abstractmethod
-from typing import Any, Callable, ClassVar, Dict, List, Optional, Pattern, Sequence, Set, Tuple
+from typing import Any, Callable, ClassVar, Dict, Iterable, Iterator, List, Optional, Pattern, Sequence, Set, Tuple
 
-from fault import Fault, number
+from bits import Some, add, less
+from fault import Fault, number, some
 from image import OUTSIDE, Image
 from memory import Memory
 from words import Value, Word, byte, from_bytes, high, low, pair, unknown
@@ -27,6 +28,38 @@ Flags = Optional[Dict[str, Optional[bool]]]
 
 def unknown_value() -> Value:
     return unknown(), unknown()
+
+
+class Forgotten(List[Word]):
+    """Words of which only the first ones are known. Each of the others is made when it is read."""
+
+    def __init__(self, known: Sequence[Word], count: int) -> None:
+        super().__init__([*known, *[0] * (count - len(known))])
+        self.unread = set(range(len(known), count))
+
+    def _read(self, places: Iterable[int]) -> None:
+        for place in self.unread.intersection(places):
+            super().__setitem__(place, unknown())
+            self.unread.discard(place)
+
+    def __getitem__(self, place: Any) -> Any:
+        if self.unread:
+            self._read(range(*place.indices(len(self))) if isinstance(place, slice) else (place,))
+        return super().__getitem__(place)
+
+    def __setitem__(self, place: Any, its: Any) -> None:
+        self._read(range(len(self)))
+        super().__setitem__(place, its)
+
+    def __iter__(self) -> Iterator[Word]:
+        self._read(range(len(self)))
+        return super().__iter__()
+
+    def __eq__(self, its: object) -> bool:
+        return list(self) == its
+
+    def __ne__(self, its: object) -> bool:
+        return list(self) != its
 
 
 class Machine(ABC):
@@ -111,7 +144,7 @@ class Machine(ABC):
         """Makes all registers and flags unknown."""
         count, vectors, width = self.SIZES
         self.general = [unknown_value() for _ in range(count)]
-        self.vectors = [[unknown() for _ in range(width)] for _ in range(vectors)]
+        self.vectors = [Forgotten((), width) for _ in range(vectors)]
         self.flags = None
 
     def number(self, register: int) -> int:
@@ -136,9 +169,13 @@ class Machine(ABC):
         """Runs a function until it returns."""
         self.frames = [(RETURN, self.kept())]
         self.begin_call()
+        self.run(address, (RETURN,))
+
+    def run(self, address: int, ends: Sequence[int]) -> int:
+        """Runs from an address on until the code arrives at one of some ends. Returns this one."""
         at = address
         try:
-            while at != RETURN:
+            while True:
                 step, following = self.decoded.get(at) or self._decoded(at)
                 self.steps += 1
                 self.stack_before = self.number(self.STACK)
@@ -149,6 +186,8 @@ class Machine(ABC):
                     self.leave(to)
                     self._call_outside(at)
                     at = to
+                if at in ends:
+                    return at
         except Fault as fault:
             it = self.image.instructions.get(at)
             raise Fault(f"{it.function if it else 'outside the code'}, {at:#x}, {it.text if it else ''}: {fault}") from None
@@ -201,7 +240,12 @@ class Machine(ABC):
         """Does what a function of the C library or of the heap does, and gives its result."""
         first, second, third = self.ARGUMENTS[:3]
         if name in ("memcpy", "memmove"):
-            return self._copy(self.number(first), self.number(second), self.number(third), name == "memcpy")
+            places = [some(self.general[register]) for register in (first, second, third)]
+            if all(isinstance(its, int) for its in places):
+                return self._copy(self.number(first), self.number(second), self.number(third), name == "memcpy")
+            self._must_be_apart(*places)
+            self.memory.copy(*places)
+            return places[0]
         if name == "memset":
             if self.number(third):
                 self.memory.store_bytes(self.number(first), [byte(low(self.general[second]), 0)] * self.number(third))
@@ -215,9 +259,15 @@ class Machine(ABC):
             return unknown_value()
         raise Fault(f"a call of {name}")
 
+    def _must_be_apart(self, to: Some, start: Some, count: Some) -> None:
+        if less(to, add(start, count)) and less(start, add(to, count)):
+            raise Fault("a copy between places that overlap")
+
     def _copy(self, to: int, start: int, count: int, is_apart: bool) -> int:
         if is_apart and to != start and to < start + count and start < to + count:
             raise Fault("memcpy of places that overlap")
+        if count:
+            self.memory.touch(to, count, True)
         if count and (to | start | count) & 3 == 0:
             self.memory.store(to, self.memory.load(start, count // 4))
         elif count:

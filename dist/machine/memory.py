@@ -4,8 +4,9 @@ from __future__ import annotations
 
 from typing import Callable, Dict, List, Tuple
 
+from bits import Some, add, known, less, span
 from fault import Fault
-from words import Word, byte, from_bytes, unknown
+from words import Word, byte, from_bytes, node, unknown
 
 
 class Memory:
@@ -17,10 +18,12 @@ class Memory:
         self.stack_start, self.stack_end, self.deepest = 0, 0, 0
         self.words: Dict[int, Word] = {}
         #: Where each region starts and ends, and whether it may be written. The last one used is the first.
-        self.regions: List[Tuple[int, int, bool]] = []
+        self.regions: List[Tuple[int, Some, bool]] = []
+        #: What a word is that nobody has written, by its place.
+        self.first_word: Callable[[int], Word] = lambda place: unknown()
 
-    def add_region(self, start: int, size: int, is_writable: bool) -> None:
-        self.regions.append((start, start + size, is_writable))
+    def add_region(self, start: int, size: Some, is_writable: bool) -> None:
+        self.regions.append((start, add(size, start), is_writable))
 
     def add_stack(self, start: int, size: int) -> None:
         """Adds the region that is the stack from now on."""
@@ -39,7 +42,9 @@ class Memory:
 
     def words_at(self, start: int, count: int) -> List[Word]:
         """Words of memory, whether they may be read or not."""
-        return [self._word(start + 4 * i) for i in range(count)]
+        if start & 3 == 0:
+            return [self._word(start + 4 * i) for i in range(count)]
+        return [from_bytes([self._byte(start + 4 * i + k) for k in range(4)]) for i in range(count)]
 
     def add_words(self, start: int, words: List[Word], is_writable: bool = False) -> int:
         """Adds a region with these words, and returns where it starts."""
@@ -71,7 +76,8 @@ class Memory:
     def touch(self, start: int, size: int, is_write: bool) -> None:
         """Refuses places outside the regions."""
         for i, (first, end, is_writable) in enumerate(self.regions):
-            if first <= start and start + size <= end and (is_writable or not is_write):
+            if first <= start and (is_writable or not is_write) and (
+                    start + size <= end if isinstance(end, int) else not less(end, start + size)):
                 if i:
                     self.regions.insert(0, self.regions.pop(i))
                 return
@@ -81,7 +87,7 @@ class Memory:
         """The word at a multiple of 4. One that nobody has written is unknown, and stays the same: padding is copied along."""
         word = self.words.get(place)
         if word is None:
-            word = self.words[place] = unknown()
+            word = self.words[place] = self.first_word(place)
         return word
 
     def _byte(self, place: int) -> Word:
@@ -94,9 +100,7 @@ class Memory:
 
     def load(self, start: int, count: int) -> List[Word]:
         self._must_allow(start, 4 * count, False)
-        if start & 3 == 0:
-            return [self._word(place) for place in range(start, start + 4 * count, 4)]
-        return [from_bytes([self._byte(start + 4 * i + k) for k in range(4)]) for i in range(count)]
+        return self.words_at(start, count)
 
     def store(self, start: int, words: List[Word]) -> None:
         self._must_allow(start, 4 * len(words), True)
@@ -107,6 +111,29 @@ class Memory:
         for i in range(4 * len(words)):
             self._put_byte(start + i, byte(words[i // 4], i % 4))
 
+    def copy(self, to: Some, start: Some, count: Some) -> None:
+        """Copies some bytes, at most 64 if it isn't known how many, from a known place to one of which bits may be unknown."""
+        source = known(start)
+        most, starts, ends = span(count), span(to), span(add(to, count))
+        if most is None or starts is None or ends is None or most[1] > 64 or ends[1] - starts[0] > 64:
+            self._must_allow(known(to), known(count), True)
+            self.store_bytes(known(to), self.load_bytes(source, known(count)))
+            return
+        self._must_allow_some(source, count, False)
+        self._must_allow_some(to, count, True)
+        first, end = starts[0] & ~3, ends[1] + 3 & ~3
+        places = range(first, end, 4)
+        copied = overwritten(self.words_at(first, len(places)), add(to, -first), self.words_at(source, (most[1] + 3) // 4), count)
+        self.put_words(first, copied)
+
+    def _must_allow_some(self, start: Some, count: Some, is_write: bool) -> None:
+        """Refuses bytes outside the regions."""
+        end = add(start, count)
+        for first, its, is_writable in self.regions:
+            if (is_writable or not is_write) and not less(start, first) and not less(its, end):
+                return
+        raise Fault(f"{'write' if is_write else 'read'} of {count!r} bytes at {start!r}, outside what may be used")
+
     def load_bytes(self, start: int, count: int) -> List[Word]:
         self._must_allow(start, count, False)
         return [self._byte(start + k) for k in range(count)]
@@ -115,3 +142,18 @@ class Memory:
         self._must_allow(start, len(data), True)
         for k, it in enumerate(data):
             self._put_byte(start + k, it)
+
+
+def overwritten(words: List[Word], at: Some, source: List[Word], count: Some) -> List[Word]:
+    """Some words, over which from a byte on some bytes of others are written. If it isn't known where, or how many, the result is made
+    of new symbols, the same ones for the same words and numbers."""
+    if isinstance(at, int) and isinstance(count, int):
+        old, new = ([byte(word, k) for word in its for k in range(4)] for its in (words, source))
+        old[at:at + count] = new[:count]
+        return [from_bytes(old[i:i + 4]) for i in range(0, len(old), 4)]
+    ends, starts = span(add(at, count)), span(at)
+    if ends is None or starts is None:
+        raise Fault("a copy that isn't known")
+    first, end = starts[0] // 4, (ends[1] + 3) // 4
+    key = (tuple(words[first:end]), add(at, -4 * first), tuple(source), count)
+    return [*words[:first], *(node("in", "copied", key, k - first) for k in range(first, end)), *words[end:]]

@@ -11,7 +11,8 @@ from layout import part_of
 @dataclass(frozen=True)
 class Plant:
     """An error: what it is, the function that has it, a pattern, what stands in the place of what it finds, which place of the function
-    that is, counted from 0 or from the end, and what the check has to say of it."""
+    that is, counted from 0 or from the end, and what the check has to say of it. If only the checks of every number see it, `numbers` is how
+    the name of that one begins."""
 
     what: str
     function: str
@@ -19,6 +20,7 @@ class Plant:
     by: str
     which: int = 0
     reason: str = ""
+    numbers: str = ""
 
     def applied_to(self, text: str) -> str:
         """The text of a level with the error, which has to change something."""

@@ -8,6 +8,7 @@ A word is an int, or a `Node`. Two nodes with the same normal form are one objec
           rotation. Rotations, shifts, masks, exchanges of bytes, and `or` of words that share no bit are all of this form. So a
           rotation is the same word, whether it was made by shifts, by bytes or by an instruction of its own.
   or, and, carry    of two words whose bits aren't known; nothing more is known of these
+  low, high         a half of a Number of bits.py
 
 Each function gives a word that stands for exactly what its name says, for every value of the symbols. So two words that are the same
 object have the same value. Words that differ may still be equal; that would be a false alarm.
@@ -25,7 +26,10 @@ from __future__ import annotations
 import itertools
 import random
 from functools import reduce, wraps
-from typing import Any, Callable, Dict, List, Tuple, TypeVar, Union, cast
+from typing import Any, Callable, Dict, List, Optional, Tuple, TypeVar, Union, cast
+
+import bits
+from bits import Number, Some
 
 M32 = 0xFFFFFFFF
 M64 = 0xFFFFFFFFFFFFFFFF
@@ -47,8 +51,8 @@ class Node:
 Word = Union[int, Node]
 #: A term of an exclusive or: an atom, how far it is rotated to the right, and which of its bits count then.
 Term = Tuple[Node, int, int]
-#: A value of up to 64 bits: a number, a word, or a low and a high word.
-Value = Union[int, Node, Tuple[Word, Word]]
+#: A value of up to 64 bits: a number, of which bits may be unknown, a word, or a low and a high word.
+Value = Union[Some, Node, Tuple[Word, Word]]
 
 _NODES: Dict[Tuple[Any, ...], Node] = {}
 #: The results of operations.
@@ -73,6 +77,9 @@ def _meaning(form: str, parts: Tuple[Any, ...]) -> int:
         for atom, rotation, mask in parts[1:]:
             number ^= _rotated(atom.number, rotation) & mask
         return number
+    if form in ("low", "high"):
+        half: int = parts[0].number
+        return half & M32 if form == "low" else half >> 32
     x, y = map(number_of, parts)
     return {"or": x | y, "and": x & y, "carry": (x + y) >> 32}[form]
 
@@ -274,6 +281,10 @@ def carry(x: Word, y: Word) -> Word:
 
 def byte(word: Word, k: int) -> Word:
     """Byte k of a word, the lowest being byte 0."""
+    if isinstance(word, Node) and word.form == "low":
+        its = some_of(word)
+        if its is not None:
+            return low(bits.low_bits(bits.shift_right(its, 8 * k), 8))
     return word >> 8 * k & 255 if isinstance(word, int) else masked(shr(word, 8 * k), 255)
 
 
@@ -285,32 +296,86 @@ def from_bytes(four: List[Word]) -> Word:
 # ---- Values of 64 bits
 
 
+def some_of(value: Value) -> Optional[Some]:
+    """The value as a number, of which bits may be unknown, if it is one."""
+    if isinstance(value, (int, Number)):
+        return value
+    if isinstance(value, Node) and value.form == "low":
+        its: Number = value.parts[0]
+        if (bits.span(its) or (0, M64))[1] <= M32:
+            return its
+    return None
+
+
+def masked_some(value: Value, mask: Value) -> Optional[Some]:
+    """The bits of a value that a number has, too, as a number, if it is one: of the low half of a sum, too."""
+    if isinstance(value, Node) and value.form == "low" and isinstance(mask, int):
+        return bits.masked(value.parts[0], mask & M32)
+    return None
+
+
+def _half(value: Number, place: int) -> Word:
+    """A half of a number as a word."""
+    try:
+        its = bits.cut(value, 32)[place]
+    except bits.Split:
+        return node("high" if place else "low", value)
+    return its if isinstance(its, int) else node("low", its)
+
+
 def low(value: Value) -> Word:
     if isinstance(value, int):
         return value & M32
+    if isinstance(value, Number):
+        return _half(value, 0)
     return value if isinstance(value, Node) else value[0]
 
 
 def high(value: Value) -> Word:
     if isinstance(value, int):
         return value >> 32
+    if isinstance(value, Number):
+        return _half(value, 1)
     return 0 if isinstance(value, Node) else value[1]
 
 
 def pair(x: Word, y: Word) -> Value:
     """The value with this low and this high word."""
-    return x | y << 32 if isinstance(x, int) and isinstance(y, int) else (x, y)
+    if isinstance(x, int) and isinstance(y, int):
+        return x | y << 32
+    if isinstance(x, Node) and x.form == "low" or isinstance(y, Node) and y.form == "low":
+        lower, upper = some_of(x), some_of(y)
+        if lower is not None and upper is not None:
+            return bits.add(lower, upper, 1 << 32)
+    if isinstance(x, Node) and isinstance(y, Node) and (x.form, y.form) == ("low", "high") and x.parts == y.parts:
+        whole: Number = x.parts[0]
+        return whole
+    return x, y
+
+
+def _both_some(x: Value, y: Value) -> Optional[Tuple[Some, Some]]:
+    """Two values as numbers, if both are, and bits of one are unknown."""
+    if isinstance(x, Number) or isinstance(y, Number):
+        one, other = some_of(x), some_of(y)
+        if one is not None and other is not None:
+            return one, other
+    return None
 
 
 def add_64(x: Value, y: Value) -> Value:
     if isinstance(x, int) and isinstance(y, int):
         return (x + y) & M64
+    both = _both_some(x, y)
+    if both:
+        return bits.add(*both)
     return pair(add(low(x), low(y)), add(high(x), high(y), carry(low(x), low(y))))
 
 
 def shl_64(value: Value, count: int) -> Value:
     if isinstance(value, int):
         return value << count & M64
+    if isinstance(value, Number):
+        return bits.shift_left(value, count)
     if count >= 32:
         return pair(0, shl(low(value), count - 32))
     return pair(shl(low(value), count), or_(shl(high(value), count), shr(low(value), 32 - count))) if count else value
@@ -319,6 +384,10 @@ def shl_64(value: Value, count: int) -> Value:
 def shr_64(value: Value, count: int) -> Value:
     if isinstance(value, int):
         return value >> count if count < 64 else 0
+    if isinstance(value, Number):
+        if count == 32:
+            return pair(high(value), 0)
+        return bits.shift_right(value, count)
     if count >= 32:
         return pair(shr(high(value), count - 32), 0)
     return pair(or_(shr(low(value), count), shl(high(value), 32 - count)), shr(high(value), count)) if count else value

@@ -8,8 +8,8 @@ from typing import Callable, Dict, Optional
 from aarch64 import scalars, vectors
 from aarch64.operands import LR, SP, name_and_operands
 from fault import Fault, number
-from machine import RETURN, Machine
-from words import Value, low, pair, unknown
+from machine import RETURN, Forgotten, Machine
+from words import Value, low, pair
 
 #: What an instruction does. It returns where the code goes on, or None for the next instruction.
 Step = Callable[["Aarch64"], Optional[int]]
@@ -42,8 +42,7 @@ class Aarch64(Machine):
 
     def forget_scratch_vectors(self) -> None:
         for i, words in enumerate(self.vectors):
-            kept = words[:2] if 8 <= i < 16 else []
-            self.vectors[i] = [*kept, *(unknown() for _ in range(4 - len(kept)))]
+            self.vectors[i] = Forgotten(words[:2] if 8 <= i < 16 else (), 4)
 
     def decode(self, text: str, at: int, following: int) -> Step:
         name, operands = name_and_operands(text)

@@ -5,9 +5,11 @@ from __future__ import annotations
 import re
 from typing import TYPE_CHECKING, List, Optional, Tuple
 
+import bits
+from bits import Some
 from fault import Fault, number
 from image import parts_of
-from words import M32, M64, Value, low, shl, shl_64, shr, shr_64
+from words import M32, M64, Value, low, shl, shl_64, shr, shr_64, some_of
 
 if TYPE_CHECKING:
     from aarch64.machine import Aarch64
@@ -95,24 +97,28 @@ class Place:
         self.is_changed_before = bool(found[5])
         self.change = number_of(operands[1]) if len(operands) == 2 else 0
 
-    def _index(self, m: "Aarch64") -> int:
+    def _index(self, m: "Aarch64") -> Some:
         if self.index is None:
             return 0
-        value = self.index.get(m)
-        if not isinstance(value, int):
+        value = some_of(self.index.get(m))
+        if value is None:
             raise Fault("an address depends on data")
         if (self.extension, self.index.size) not in (("lsl", 8), ("uxtw", 4)):
             raise Fault(f"an index by {self.extension}")
-        return value << self.shift
+        return bits.shift_left(value, self.shift)
 
     def address(self, m: "Aarch64") -> int:
         """The address. It changes the base register, if it is to be changed."""
-        base = self.base.get(m)
-        if not isinstance(base, int):
+        base = some_of(self.base.get(m))
+        if base is None:
             raise Fault("an address depends on data")
+        if not isinstance(base, int):
+            if self.is_changed_before or self.change:
+                bits.known(base)
+            return bits.known(bits.add(bits.add(base, self.offset), self._index(m)))
         if self.base.number == SP and base % 16:
             raise Fault("the stack pointer isn't a multiple of 16")
-        address = base + self.offset + self._index(m) & M64
+        address = bits.known(bits.add(self._index(m), base + self.offset & M64))
         if self.is_changed_before or self.change:
             self.base.put(m, (address if self.is_changed_before else base) + self.change & M64)
         return address
@@ -124,6 +130,11 @@ def shifted(value: Value, text: Optional[str], size: int) -> Value:
         return value
     kind, _, count = text.partition(" ")
     by = number_of(count) if count else 0
+    its = some_of(low(value) if kind == "uxtw" else value)
+    if its is not None and not isinstance(its, int) and kind in ("uxtw", "lsl", "lsr"):
+        if (kind, by, size) == ("lsr", 32, 8):
+            return shr_64(value, by)
+        return bits.shift_right(its, by) if kind == "lsr" else bits.low_bits(bits.shift_left(its, by), 8 * size)
     if kind == "uxtw":
         return shl_64(low(value), by)
     if kind == "lsl":
@@ -131,8 +142,8 @@ def shifted(value: Value, text: Optional[str], size: int) -> Value:
     if kind == "lsr":
         return shr_64(value, by) if size == 8 else shr(low(value), by)
     if kind in ("asr", "ror"):
-        its, bits = number(value), 8 * size
+        its, most = number(value), 8 * size
         if kind == "ror":
-            return (its >> by | its << (bits - by)) & (M64 if size == 8 else M32)
-        return (its - (1 << bits) if its >> (bits - 1) else its) >> by & (M64 if size == 8 else M32)
+            return (its >> by | its << (most - by)) & (M64 if size == 8 else M32)
+        return (its - (1 << most) if its >> (most - 1) else its) >> by & (M64 if size == 8 else M32)
     raise Fault(f"the operand {text}")

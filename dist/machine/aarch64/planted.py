@@ -29,5 +29,9 @@ PLANTS: Dict[str, List[Plant]] = {
         Plant("half of a vector that 128 KiB lose", of_width("subtrees::values_apart", 4), r"lsr\tx21, x4, #1\n", r"lsr\tx21, x4, #1\n\tcmp\tx4, #32\n\tb.ne\t9f\n\tfmov\td8, x4\n9:\n", 0, "it leaves another value in vector 8"),
         Plant("a place below the stack pointer", "compression::compress", r"\.cfi_startproc\n", ".cfi_startproc\n\tstr\tx0, [sp, #-16]\n\tldr\tx0, [sp, #-16]\n", 0, "below the stack pointer"),
         Plant("a read after the message", of_width("chunks::take_block", 4), r"ldr\t(q\d+), \[x12, x10\]", r"ldr\t\1, [x12, x10, lsl #4]"),
+        Plant("another number from 2^33 chunks on", of_width("subtrees::values_apart", 4), r"lsr\tx21, x4, #1\n", r"lsr\tx21, x4, #1\n\tlsr\tx9, x4, #33\n\tcbz\tx9, 9f\n\tadd\tx5, x5, #1\n9:\n", 0, "values_apart of 8589934592 chunks: ", "values_apart of 8589934592"),
+        Plant("half of a vector that 2^40 chunks in each lane lose", of_width("subtrees::values_apart", 4), r"lsr\tx21, x4, #1\n", r"lsr\tx21, x4, #1\n\tlsr\tx9, x4, #40\n\tcbz\tx9, 9f\n\tfmov\td8, x4\n9:\n", 0, "it leaves another value in vector 8", "values_apart of 1099511627776"),
+        Plant("a value too few where 50 wait", "hasher::Hasher::finalize", r"fmov\tx8, d0\n", r"fmov\tx8, d0\n\tcmp\tx8, #50\n\tb.ne\t9f\n\tsub\tx8, x8, #1\n9:\n", 0, "finalize: ", "finalize"),
+        Plant("a length cut to 32 bits", "keyed_hash", r"mov\tx2, x21\n((?:.*\n){1,4}\tbl\t\"keyed_blake3::hasher::Hasher::update\")", r"mov\tw2, w21\n\1", 0, "the calls of a hasher", "keyed_hash"),
     ],
 }

@@ -8,9 +8,12 @@ from __future__ import annotations
 
 from typing import TYPE_CHECKING, Callable, Dict, List, Optional, Tuple
 
+import bits
 from aarch64.operands import LR, SP, General, Place, is_general, number_of, shifted
-from fault import Fault, number
-from words import M64, Value, Word, add, add_64, and_, high, low, or_, pair, shl, shl_64, shr, shr_64, xor
+from bits import Some
+from fault import Fault, number, some
+from flags import FoundFlags, order_holds
+from words import M64, Value, Word, add, add_64, and_, high, low, masked_some, or_, pair, shl, shl_64, shr, shr_64, some_of, xor
 
 if TYPE_CHECKING:
     from aarch64.machine import Aarch64, Step
@@ -23,6 +26,8 @@ _CONDITIONS: Dict[str, Tuple[str, Callable[[Dict[str, bool]], bool]]] = {
     "ge": ("nv", lambda f: f["n"] == f["v"]), "lt": ("nv", lambda f: f["n"] != f["v"]),
     "gt": ("nzv", lambda f: not f["z"] and f["n"] == f["v"]), "le": ("nzv", lambda f: f["z"] or f["n"] != f["v"]),
 }
+#: The orders of two numbers from 0 on, by conditions.
+_ORDERS = {"cc": "<", "lo": "<", "cs": ">=", "hs": ">=", "eq": "==", "ne": "!=", "ls": "<=", "hi": ">"}
 #: Instructions that do nothing here. At `bti` an indirect jump may arrive.
 _NOTHING = ("nop", "bti")
 #: Where the signature of an address to return to begins.
@@ -33,6 +38,8 @@ def holds(m: "Aarch64", condition: str) -> bool:
     """Whether a condition holds of the flags, which have to have values."""
     needed, test = _CONDITIONS[condition]
     flags = m.flags
+    if isinstance(flags, FoundFlags) and flags.compared and condition in _ORDERS:
+        return order_holds(_ORDERS[condition], *flags.compared)
     if flags is None or any(flags[it] is None for it in needed):
         raise Fault("a branch or a choice depends on data")
     return test(flags)  # type: ignore[arg-type]
@@ -99,13 +106,13 @@ def _branch_if(condition: str, operands: List[str], at: int) -> "Step":
 def _branch_if_zero(name: str, operands: List[str], at: int) -> "Step":
     """`cbz` and `cbnz`."""
     register, to = General(operands[0]), int(operands[1], 16)
-    return lambda m: _branch(m, at, to, (number(register.get(m)) == 0) == (name == "cbz"))
+    return lambda m: _branch(m, at, to, bits.is_zero(some(register.get(m))) == (name == "cbz"))
 
 
 def _branch_if_bit(name: str, operands: List[str], at: int) -> "Step":
     """`tbz` and `tbnz`."""
     register, bit, to = General(operands[0]), number_of(operands[1]), int(operands[2], 16)
-    return lambda m: _branch(m, at, to, (number(register.get(m)) >> bit & 1 == 0) == (name == "tbz"))
+    return lambda m: _branch(m, at, to, bits.is_zero(bits.masked(some(register.get(m)), 1 << bit)) == (name == "tbz"))
 
 
 def _trap(operands: List[str], at: int) -> "Step":
@@ -205,6 +212,30 @@ def _added(m: "Aarch64", size: int, x: int, y: int, carry: int, sets: bool) -> i
     return result
 
 
+def _low(value: Some, size: int) -> Some:
+    """A result of 64 bits, of which fewer may count."""
+    return bits.low_bits(value, 8 * size)
+
+
+def _is_negative(value: Some, size: int) -> bool:
+    return not bits.less(value, 1 << 8 * size - 1)
+
+
+def _added_some(m: "Aarch64", size: int, x: Some, y: Some, subtracts: bool, sets: bool) -> Some:
+    """A sum or a difference of numbers of which bits are unknown, and its flags, if it sets them."""
+    mask = (1 << 8 * size) - 1
+    if subtracts and size < 8:
+        result = bits.add(bits.subtract(x, y), int(bits.less(x, y)) << 8 * size)
+    else:
+        result = _low(bits.add(x, y, -1 if subtracts else 1), size)
+    if sets:
+        m.flags = FoundFlags({
+            "n": lambda: _is_negative(result, size), "z": lambda: bits.is_zero(result), "v": lambda: None,
+            "c": lambda: not bits.less(x, y) if subtracts else bits.less(bits.subtract(mask, y), x),
+        }, (x, y) if subtracts else None)
+    return result
+
+
 def _add(name: str, operands: List[str]) -> "Step":
     """`add`, `sub`, those that set flags, and those that only compare."""
     to = General(operands[0])
@@ -217,6 +248,8 @@ def _add(name: str, operands: List[str]) -> "Step":
         one, other = x.get(m), y.get(m)
         if isinstance(one, int) and isinstance(other, int):
             result: Value = _added(m, to.size, one, other ^ (mask if subtracts else 0), int(subtracts), sets)
+        elif some_of(one) is not None and some_of(other) is not None:
+            result = _added_some(m, to.size, some(one), some(other), subtracts, sets)
         elif subtracts or sets:
             raise Fault("a difference of data")
         else:
@@ -225,6 +258,19 @@ def _add(name: str, operands: List[str]) -> "Step":
             to.put(m, result)
 
     return step
+
+
+def _bits_of_some(name: str, x: Value, y: Value) -> Optional[Some]:
+    """What an operation on bits gives for numbers, if they are such. Of a low half of a sum, some bits are a number, too."""
+    one, other = some_of(x), some_of(y)
+    if one is not None and other is not None:
+        return {"orr": bits.or_, "eor": bits.xor}.get(name, bits.and_)(one, other)
+    return None if name in ("orr", "eor") else masked_some(x, y)
+
+
+def _flags_of_bits(found: Some, size: int) -> FoundFlags:
+    """The flags of bits that an operation gives."""
+    return FoundFlags({"n": lambda: _is_negative(found, size), "z": lambda: bits.is_zero(found), "c": lambda: False, "v": lambda: False})
 
 
 def _of_bits(name: str, operands: List[str]) -> "Step":
@@ -240,6 +286,13 @@ def _of_bits(name: str, operands: List[str]) -> "Step":
         one, other = x.get(m), y.get(m)
         if name.startswith("bic"):
             other = number(other) ^ mask
+        found = _bits_of_some(name, one, other)
+        if found is not None:
+            if sets:
+                m.flags = _flags_of_bits(found, to.size)
+            if name != "tst":
+                to.put(m, found)
+            return
         result = pair(of_words(low(one), low(other)), of_words(high(one), high(other))) if to.size == 8 else of_words(low(one), low(other))
         if sets:
             its = number(result)
@@ -254,7 +307,7 @@ def _not(name: str, operands: List[str]) -> "Step":
     """`mvn` and `neg`."""
     to = General(operands[0])
     source, mask = Given(operands[1:], to.size), (1 << 8 * to.size) - 1
-    return lambda m: to.put(m, (~number(source.get(m)) + (name == "neg")) & mask)
+    return lambda m: to.put(m, _low(bits.add(bits.subtract(mask, some(source.get(m))), int(name == "neg")), to.size))
 
 
 def _shift(name: str, operands: List[str]) -> "Step":
@@ -267,17 +320,30 @@ def _shift(name: str, operands: List[str]) -> "Step":
 def _bits(name: str, operands: List[str]) -> "Step":
     """`ubfx` and `ubfiz`: some bits of a register, moved to the lowest place or from there."""
     to, source, start, count = General(operands[0]), General(operands[1]), number_of(operands[2]), number_of(operands[3])
-    bits = 8 * to.size
-    left, right = (bits - start - count, bits - count) if name == "ubfx" else (bits - count, bits - count - start)
+    size = 8 * to.size
+    left, right = (size - start - count, size - count) if name == "ubfx" else (size - count, size - count - start)
 
     def step(m: "Aarch64") -> None:
         value = source.get(m)
-        if to.size == 8:
+        its = some_of(value)
+        if its is not None:
+            field = bits.low_bits(bits.shift_right(its, start), count) if name == "ubfx" else bits.shift_left(bits.low_bits(its, count), start)
+            to.put(m, field)
+        elif to.size == 8:
             to.put(m, shr_64(shl_64(value, left), right))
         else:
             to.put(m, shr(shl(low(value), left), right))
 
     return step
+
+
+def _product_of_some(name: str, size: int, x: Some, y: Some, z: Some) -> Some:
+    """A product or a quotient of numbers of which bits are unknown."""
+    if name == "udiv" and isinstance(y, int) and y and y & y - 1 == 0:
+        return bits.shift_right(x, y.bit_length() - 1)
+    if name in ("mul", "madd", "msub"):
+        return _low(bits.add(z, bits.multiply(x, y), -1 if name == "msub" else 1), size)
+    raise Fault("a product or a quotient that isn't known")
 
 
 def _product(name: str, operands: List[str]) -> "Step":
@@ -287,7 +353,10 @@ def _product(name: str, operands: List[str]) -> "Step":
     mask = (1 << 8 * to.size) - 1
 
     def step(m: "Aarch64") -> None:
-        one, other, third = number(x.get(m)), number(y.get(m)), number(z.get(m)) if z else 0
+        one, other, third = some(x.get(m)), some(y.get(m)), some(z.get(m)) if z else 0
+        if not (isinstance(one, int) and isinstance(other, int) and isinstance(third, int)):
+            to.put(m, _product_of_some(name, to.size, one, other, third))
+            return
         results = {"mul": one * other, "madd": third + one * other, "msub": third - one * other, "umulh": one * other >> 64}
         to.put(m, (one // other if other else 0) if name == "udiv" else results[name] & mask)
 
@@ -297,7 +366,6 @@ def _product(name: str, operands: List[str]) -> "Step":
 def _choice(name: str, operands: List[str]) -> "Step":
     """`csel`, `csinc`, `cinc` and `cset`: one of two values, by a condition, the second one increased for most of them."""
     to, condition = General(operands[0]), operands[-1]
-    mask = (1 << 8 * to.size) - 1
     texts = {"cset": ["wzr" if to.size == 4 else "xzr"] * 2, "cinc": [operands[1]] * 2}.get(name, operands[1:3])
     x, y = General(texts[0]), General(texts[1])
     is_other_way_round = name in ("cset", "cinc")
@@ -306,7 +374,7 @@ def _choice(name: str, operands: List[str]) -> "Step":
         if holds(m, condition) != is_other_way_round:
             to.put(m, x.get(m))
         else:
-            to.put(m, y.get(m) if name == "csel" else number(y.get(m)) + 1 & mask)
+            to.put(m, y.get(m) if name == "csel" else _low(bits.add(some(y.get(m)), 1), to.size))
 
     return step
 
@@ -318,7 +386,11 @@ def _compare_if(name: str, operands: List[str]) -> "Step":
 
     def step(m: "Aarch64") -> None:
         if holds(m, condition):
-            _added(m, x.size, number(x.get(m)), number(y.get(m)) ^ mask, 1, True)
+            one, other = some(x.get(m)), some(y.get(m))
+            if isinstance(one, int) and isinstance(other, int):
+                _added(m, x.size, one, other ^ mask, 1, True)
+            else:
+                _added_some(m, x.size, one, other, True, True)
         else:
             m.flags = {flag: bool(otherwise >> bit & 1) for bit, flag in enumerate("vczn")}
 

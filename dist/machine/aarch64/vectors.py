@@ -6,10 +6,12 @@ A vector is a list of four words, the lowest first. An instruction that writes f
 from __future__ import annotations
 
 import re
+from functools import reduce
 from typing import TYPE_CHECKING, Any, Callable, Dict, Iterable, List, Optional
 
 from aarch64.operands import General, Place, Vector, is_general, is_vector, number_of
-from fault import Fault, number
+from bits import add as plus, count_ones_of_bytes, low_bits
+from fault import Fault, number, some
 from words import (
     M32, M64, Word, add, add_64, add_apart, and_, byte, from_bytes, high, low, or_, pair, ror, shl, shl_64, shr, shr_64, xor,
 )
@@ -125,7 +127,7 @@ def _reversed(unit: int, part: int) -> OfVectors:
 _OF_ONE: Dict[str, ByUnits] = {
     "mov": {1: _each(lambda x: x)}, "mvn": {1: _each(lambda x: xor(x, M32))}, "not": {1: _each(lambda x: xor(x, M32))},
     "rev64": {part: _reversed(8, part) for part in (1, 2, 4)}, "rev32": {part: _reversed(4, part) for part in (1, 2)},
-    "cnt": {1: _each_byte(lambda x: bin(x).count("1"))},
+    "cnt": {1: _each(lambda x: low(count_ones_of_bytes(some(x))))},
 }
 
 
@@ -285,7 +287,7 @@ def _sum_of_bytes(name: str, operands: List[str]) -> "Step":
     to, x = Vector(operands[0]), Vector(operands[1])
     if to.unit != 1:
         raise Fault("elements that aren't known")
-    return lambda m: put(m, to, [sum(map(number, bytes_of(get(m, x)))) & 255])
+    return lambda m: put(m, to, [low(low_bits(reduce(plus, map(some, bytes_of(get(m, x)))), 8))])
 
 
 # ---- Memory

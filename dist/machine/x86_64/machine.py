@@ -5,9 +5,10 @@ from __future__ import annotations
 import re
 from typing import Callable, ClassVar, Dict, List, Optional, Sequence, Tuple
 
+import bits
 from fault import Fault, number
-from machine import RETURN, Machine
-from words import Value, Word, byte, from_bytes, high, low, pair, unknown
+from machine import RETURN, Forgotten, Machine
+from words import Value, Word, byte, from_bytes, high, low, pair, some_of
 from x86_64 import scalars, vectors
 from x86_64.operands import (
     R8, R9, R10, R11, R12, R13, R14, R15, RAX, RBP, RBX, RCX, RDI, RDX, RSI, RSP, name_and_operands, vector_of,
@@ -36,6 +37,8 @@ class X86(Machine):
             return value
         if size == 4:
             return low(value)
+        if isinstance(value, bits.Number):
+            return bits.low_bits(value, 8 * size)
         return from_bytes([byte(low(value), k) if k < size else 0 for k in range(4)])
 
     def put(self, register: int, size: int, value: Value) -> None:
@@ -46,6 +49,11 @@ class X86(Machine):
             self.general[register] = pair(low(value), 0)
         else:
             old = self.general[register]
+            if isinstance(old, bits.Number):
+                its = some_of(value)
+                if its is not None:
+                    self.general[register] = bits.add(bits.shift_left(bits.shift_right(old, 8 * size), 8 * size), its)
+                    return
             self.general[register] = pair(from_bytes([byte(low(value if k < size else old), k) for k in range(4)]), high(old))
 
     def low_words(self, register: int, count: int) -> List[Word]:
@@ -94,7 +102,7 @@ class X86(Machine):
         return {f"register {register}": self.general[register] for register in self.KEPT}
 
     def forget_scratch_vectors(self) -> None:
-        self.vectors = [[unknown() for _ in range(16)] for _ in range(32)]
+        self.vectors = [Forgotten((), 16) for _ in range(32)]
         self.has_upper_halves = False
 
     def decode(self, text: str, at: int, following: int) -> Step:
@@ -129,5 +137,4 @@ class WindowsX86(X86):
     def forget_scratch_vectors(self) -> None:
         self.has_upper_halves = False
         for i, words in enumerate(self.vectors):
-            kept = self.KEPT_WORDS if i in self.KEPT_VECTORS else 0
-            words[kept:] = [unknown() for _ in words[kept:]]
+            self.vectors[i] = Forgotten(words[:self.KEPT_WORDS] if i in self.KEPT_VECTORS else (), 16)

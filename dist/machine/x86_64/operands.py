@@ -5,6 +5,7 @@ from __future__ import annotations
 import re
 from typing import TYPE_CHECKING, Callable, Dict, List, Optional, Tuple
 
+import bits
 from fault import Fault
 from image import parts_of
 from words import M64, Value, Word, pair
@@ -94,13 +95,19 @@ class Place:
 
     def address(self, m: "X86", alignment: int = 1) -> int:
         address = self.offset
+        rest: bits.Some = 0
         for register, scale in ((self.base, 1), (self.index, self.scale)):
             if register is not None:
                 value = m.general[register]
-                if not isinstance(value, int):
+                if isinstance(value, int):
+                    address += value * scale
+                elif isinstance(value, bits.Number):
+                    rest = bits.add(rest, value, scale)
+                else:
                     raise Fault("an address depends on data")
-                address += value * scale
         address &= M64
+        if rest:
+            address = bits.known(bits.add(rest, address))
         if address % alignment:
             raise Fault(f"{address:#x} isn't a multiple of {alignment}")
         return address

@@ -22,6 +22,9 @@ PLANTS: Dict[str, List[Plant]] = {
         Plant("the flags of the last block", of_width("chunks::chunk_values", 4), r"(\.LCPI\d+)_3\(", r"\1_2("),
         Plant("an exchange of words in one block", "compression::compress", r"pshufd\t\$57,", r"pshufd\t$147,", 1),
         Plant("a value in another register", "compression::two::compress_two_from", r"movaps\t(\d+)\(%rsp\), (%xmm\d+)", r"movaps\t\1(%rsp), %xmm15", 2),
+        Plant("another number from 2^33 chunks on", of_width("subtrees::values_apart", 4), r"movq\t%r8, %r15\n", r"movq\t%r8, %r15\n\tmovq\t%r8, %rax\n\tshrq\t$33, %rax\n\tje\t9f\n\tincq\t%r9\n9:\n", 0, "values_apart of 8589934592 chunks: ", "values_apart of 8589934592"),
+        Plant("a value too few where 50 wait", "hasher::Hasher::finalize", r"shrq\t\$56, %rbx\n", r"shrq\t$56, %rbx\n\tcmpq\t$50, %rbx\n\tjne\t9f\n\tdecq\t%rbx\n9:\n", 0, "finalize: ", "finalize"),
+        Plant("a length cut to 32 bits", "keyed_hash", r"movq\t%r14, %rdx\n(\tcallq\t\"keyed_blake3::hasher::Hasher::update\")", r"movl\t%r14d, %edx\n\1", 0, "the calls of a hasher", "keyed_hash"),
     ],
     "x86-64-v2": [
         Plant("a shift of a rotation", of_width("chunks::take_block", 4), r"psrld\t\$7,", r"psrld\t$8,", 3),
@@ -29,6 +32,7 @@ PLANTS: Dict[str, List[Plant]] = {
         Plant("the flags of the last block", of_width("chunks::chunk_values", 4), r"(\.LCPI\d+)_3\(", r"\1_1("),
         Plant("a shift in two blocks", "compression::two::compress_two_from", r"pslld\t\$20,", r"pslld\t$19,", 2),
         Plant("the lower half of a counter for the upper one", of_width("chunks::take_block", 4), r"(?m)(\d+)\(%r8\), (%xmm\d+)$", r"(%r8), \2", 0),
+        Plant("the number of a chunk cut to 48 bits", "hasher::Hasher::finalize", r"movq\t%r15, %rdx\n", r"movq\t%r15, %rdx\n\tshlq\t$16, %rdx\n\tshrq\t$16, %rdx\n", 0, "finalize: ", "finalize"),
     ],
     "x86-64-v3": [
         Plant("a shift of a rotation", of_width("chunks::take_block", 8), r"vpsrld\t\$12,", r"vpsrld\t$13,", 7),
@@ -43,6 +47,8 @@ PLANTS: Dict[str, List[Plant]] = {
         Plant("a shift in two pairs", of_width("tree::Tree::absorb_subtrees", 4), r"vpsrld\t\$12,", r"vpsrld\t$13,", 4),
         Plant("eight lanes a chunk too late", "hasher::Hasher::update", r"cmpq\t\$5120,", r"cmpq\t$6144,"),
         Plant("a register that isn't given back", of_width("chunks::chunk_values", 8), r"popq\t%rbx", r"popq\t%rcx", -1),
+        Plant("another number from 2^33 chunks on", of_width("subtrees::values_apart", 8), r"movq\t%r9, %r13\n", r"movq\t%r9, %r13\n\tmovq\t%r15, %rax\n\tshrq\t$32, %rax\n\tje\t9f\n\tincq\t%r9\n9:\n", 0, "values_apart of 8589934592 chunks: ", "values_apart of 8589934592"),
+        Plant("a length cut to 32 bits", "keyed_hash", r"movq\t%r14, %rdx\n(\tvzeroupper\n\tcallq\t\"keyed_blake3::hasher::Hasher::update\")", r"movl\t%r14d, %edx\n\1", 0, "the calls of a hasher", "keyed_hash"),
     ],
     "x86-64-v4": [
         Plant("a rotation", of_width("chunks::take_block", 16), r"vprold\t\$20,", r"vprold\t$19,", 7),
@@ -83,6 +89,14 @@ PLANTS: Dict[str, List[Plant]] = {
         Plant("upper halves that stay in use", of_width("chunks::take_block", 16), r"\tvzeroupper\n\tretq", r"\tretq", 0, "vzeroupper is missing"),
         Plant("upper halves that stay in use", "keyed_hash", r"\tvzeroupper\n\tretq", r"\tretq", -1, "vzeroupper is missing"),
         Plant("a carry over more than 32 joins", "tree::add_subtree_value", r"movq\t%r15, %rax\n\tshrq\t%rax\n", r"movl\t%r15d, %eax\n\tshrl\t%eax\n", 1, AFTER),
+        Plant("another number from 2^33 chunks on", of_width("subtrees::values_apart", 16), r"movq\t%r8, %r12\n", r"movq\t%r8, %r12\n\tmovq\t%r8, %rax\n\tshrq\t$33, %rax\n\tje\t9f\n\tincq\t%r9\n9:\n", 0, "values_apart of 8589934592 chunks: ", "values_apart of 8589934592"),
+        Plant("a register that 2^40 chunks in each lane lose", of_width("subtrees::values_apart", 16), r"movq\t%r8, %r12\n", r"movq\t%r8, %r12\n\tmovq\t%r8, %rax\n\tshrq\t$40, %rax\n\tje\t9f\n\tmovq\t%rax, -40(%rbp)\n9:\n", 0, "it leaves another value in register 3", "values_apart of 1099511627776"),
+        Plant("the number of a chunk cut to 48 bits", of_width("tree::Tree::absorb_subtrees", 16), r"movq\t%r12, %r9\n", r"movq\t%r12, %r9\n\tshlq\t$16, %r9\n\tshrq\t$16, %r9\n", 0, "absorb_subtrees of 2 chunks in 16 lanes: ", "absorb_subtrees of 2 chunks in 16"),
+        Plant("the size of subtrees cut to 32 bits", of_width("tree::Tree::absorb_subtrees", 16), r"shrq\t\$14, %r9\n", r"shrl\t$14, %r9d\n", 0, "subtrees of 0 chunks", "absorb_subtrees of 262144 chunks in 16"),
+        Plant("a value too few where 50 wait", "hasher::Hasher::finalize", r"popcntq\t%r15, %r15\n", r"popcntq\t%r15, %r15\n\tcmpq\t$50, %r15\n\tjne\t9f\n\tdecq\t%r15\n9:\n", 0, "finalize: ", "finalize"),
+        Plant("the number of a chunk cut to 48 bits", "hasher::Hasher::finalize", r"movq\t%r15, %rdx\n", r"movq\t%r15, %rdx\n\tshlq\t$16, %rdx\n\tshrq\t$16, %rdx\n", 0, "finalize: ", "finalize"),
+        Plant("a length cut to 32 bits", "keyed_hash", r"movq\t%r14, %rdx\n(\tvzeroupper\n\tcallq\t\"keyed_blake3::hasher::Hasher::update\")", r"movl\t%r14d, %edx\n\1", 0, "the calls of a hasher", "keyed_hash"),
+        Plant("the bytes taken cut to 32 bits", "hasher::Hasher::update", r"(shlq\t\$6, %rbp\n)\taddq\t%rbp, %r12\n", r"\1\taddl\t%ebp, %r12d\n", 0, "isn't kept", "update, a round"),
     ],
     "windows-x86-64-v3": [
         Plant("the number of a chunk cut to 32 bits", of_width("tree::Tree::absorb_subtrees", 4), r"movq\t%rdx, %rdi\n", r"movl\t%edx, %edi\n", 0, AFTER),

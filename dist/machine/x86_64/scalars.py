@@ -9,9 +9,12 @@ from __future__ import annotations
 import re
 from typing import TYPE_CHECKING, Callable, Dict, List, Optional, Tuple
 
-from fault import Fault, number
+import bits
+from bits import Some
+from fault import Fault, number, some
+from flags import FoundFlags, order_holds
 from x86_64.operands import RAX, RDX, REGISTERS, Place, general, number_of
-from words import Value, Word, add, add_64, and_, high, low, or_, pair, ror, shl, shl_64, shr, shr_64, xor
+from words import Value, Word, add, add_64, and_, high, low, masked_some, or_, pair, ror, shl, shl_64, shr, shr_64, some_of, xor
 
 if TYPE_CHECKING:
     from x86_64.machine import X86, Step
@@ -26,6 +29,8 @@ _CONDITIONS: Dict[str, Tuple[str, Callable[[Dict[str, bool]], bool]]] = {
     "l": ("so", lambda f: f["s"] != f["o"]), "ge": ("so", lambda f: f["s"] == f["o"]),
     "le": ("zso", lambda f: f["z"] or f["s"] != f["o"]), "g": ("zso", lambda f: not f["z"] and f["s"] == f["o"]),
 }
+#: The orders of two numbers from 0 on, by conditions.
+_ORDERS = {"b": "<", "ae": ">=", "e": "==", "ne": "!=", "be": "<=", "a": ">"}
 #: Instructions that change nothing. A prefetch has no address that would be a fault.
 _NOTHING = ("nop", "nopw", "nopl", "endbr64", "prefetcht0")
 
@@ -34,6 +39,8 @@ def holds(m: "X86", condition: str) -> bool:
     """Whether a condition holds of the flags, which have to have values."""
     needed, test = _CONDITIONS[condition]
     flags = m.flags
+    if isinstance(flags, FoundFlags) and flags.compared and condition in _ORDERS:
+        return order_holds(_ORDERS[condition], *flags.compared)
     if flags is None or any(flags[it] is None for it in needed):
         raise Fault("a branch or a choice depends on data, or on a flag that has no value")
     return test(flags)  # type: ignore[arg-type]
@@ -159,8 +166,16 @@ def _zero_extended(operands: List[str], at: int, following: int) -> "Step":
 
 def _sign_extended(operands: List[str], at: int, following: int) -> "Step":
     to, source = Operand(operands[0], following), Operand(operands[1], following)
-    sign, mask = 1 << (8 * source.size - 1), (1 << 8 * to.size) - 1
-    return lambda m: to.store(m, ((number(source.get(m)) ^ sign) - sign) & mask)
+    sign, mask, above = 1 << (8 * source.size - 1), (1 << 8 * to.size) - 1, (1 << 8 * source.size)
+
+    def step(m: "X86") -> None:
+        value = some(source.get(m))
+        if isinstance(value, int):
+            to.store(m, ((value ^ sign) - sign) & mask)
+        else:
+            to.store(m, value if bits.less(value, sign) else bits.add(value, mask + 1 - above))
+
+    return step
 
 
 def _address(operands: List[str], at: int, following: int) -> "Step":
@@ -173,7 +188,7 @@ def _address(operands: List[str], at: int, following: int) -> "Step":
         for part, scale in ((place.base, 1), (place.index, place.scale)):
             if part is not None:
                 its = m.general[part]
-                value = add_64(value, its if scale == 1 else number(its) * scale & (1 << 64) - 1)
+                value = add_64(value, its if scale == 1 else bits.multiply(some(its), scale))
         m.put(register, size, value if size == 8 else low(value))
 
     return step
@@ -218,6 +233,56 @@ def _of_numbers(m: "X86", name: str, size: int, x: int, y: int) -> int:
     return whole & mask
 
 
+def _low(value: Some, size: int) -> Some:
+    """A result of 64 bits, of which fewer may count."""
+    return bits.low_bits(value, 8 * size)
+
+
+def _difference(x: Some, y: Some, size: int) -> Some:
+    if size == 8:
+        return bits.subtract(x, y)
+    return bits.add(bits.subtract(x, y), int(bits.less(x, y)) << 8 * size)
+
+
+def _of_some(m: "X86", name: str, size: int, x: Some, y: Some) -> Some:
+    """The result of two numbers of which bits are unknown; it sets the flags."""
+    mask = (1 << 8 * size) - 1
+    if name in ("cmp", "sub", "sbb"):
+        taken = bits.add(y, int(name == "sbb" and holds(m, "b")))
+        m.flags = FoundFlags({
+            "c": lambda: bits.less(x, taken), "z": lambda: bits.equal(x, taken), "o": lambda: None,
+            "s": lambda: _is_negative(_difference(x, taken, size), size),
+        }, (x, taken))
+        return 0 if name == "cmp" else _difference(x, taken, size)
+    if name in ("add", "adc"):
+        added = bits.add(y, int(name == "adc" and holds(m, "b")))
+        result = _low(bits.add(x, added), size)
+        m.flags = FoundFlags({
+            "c": lambda: bits.less(bits.subtract(mask, added), x), "z": lambda: bits.is_zero(result), "o": lambda: None,
+            "s": lambda: _is_negative(result, size),
+        })
+        return result
+    result = {"and": bits.and_, "test": bits.and_, "or": bits.or_, "xor": bits.xor}[name](x, y)
+    m.flags = _flags_of(result, size)
+    return result
+
+
+def _is_negative(value: Some, size: int) -> bool:
+    return not bits.less(value, 1 << 8 * size - 1)
+
+
+def _flags_of(result: Some, size: int) -> FoundFlags:
+    """The flags of a result without a carry."""
+    return FoundFlags({
+        "c": lambda: False, "o": lambda: False, "z": lambda: bits.is_zero(result), "s": lambda: _is_negative(result, size),
+    })
+
+
+def _flags_of_later(result: Callable[[], Some]) -> FoundFlags:
+    """The flags of a result below 2^63 that is only found if they are asked for."""
+    return FoundFlags({"c": lambda: None, "o": lambda: None, "z": lambda: bits.is_zero(result()), "s": lambda: False})
+
+
 def _two(name: str, operands: List[str], following: int) -> "Step":
     """An operation on two operands, whose result goes to the first one, unless the operation only compares."""
     to = Operand(operands[0], following)
@@ -229,8 +294,15 @@ def _two(name: str, operands: List[str], following: int) -> "Step":
         if isinstance(x, int) and isinstance(y, int):
             result: Value = _of_numbers(m, name, to.size, x, y)
         else:
-            m.flags = None
-            result = 0 if name in ("cmp", "test") else _of_data(name, to.size, x, y)
+            one, other = some_of(x), some_of(y)
+            part = masked_some(x, y) if name in ("and", "test") else None
+            if one is not None and other is not None:
+                result = _of_some(m, name, to.size, one, other)
+            elif part is not None:
+                m.flags, result = _flags_of(part, to.size), part
+            else:
+                m.flags = None
+                result = 0 if name in ("cmp", "test") else _of_data(name, to.size, x, y)
         if name not in ("cmp", "test"):
             to.store(m, result)
 
@@ -248,12 +320,32 @@ def _probe(operands: List[str], following: int) -> "Step":
     return step
 
 
+def _one_of_some(m: "X86", name: str, size: int, x: Some) -> Some:
+    """The result of a number of which bits are unknown; it sets the flags."""
+    mask = (1 << 8 * size) - 1
+    if name == "not":
+        return bits.subtract(mask, x)
+    old = m.flags
+    if name == "inc":
+        result = _low(bits.add(x, 1), size)
+    else:
+        result = _difference(*((0, x) if name == "neg" else (x, 1)), size)
+    m.flags = FoundFlags({
+        "c": lambda: not bits.is_zero(x) if name == "neg" else old["c"] if old else None, "o": lambda: None,
+        "z": lambda: bits.is_zero(result), "s": lambda: _is_negative(result, size),
+    })
+    return result
+
+
 def _one(name: str, operands: List[str], following: int) -> "Step":
     to = Operand(operands[0], following)
     mask, sign = (1 << 8 * to.size) - 1, 1 << (8 * to.size - 1)
 
     def step(m: "X86") -> None:
-        x = number(to.get(m))
+        x = some(to.get(m))
+        if not isinstance(x, int):
+            to.store(m, _one_of_some(m, name, to.size, x))
+            return
         result = {"not": ~x, "neg": -x, "inc": x + 1, "dec": x - 1}[name] & mask
         if name == "neg":
             set_flags(m, result, to.size, x != 0, x == sign)
@@ -291,6 +383,18 @@ def _shift_of_number(m: "X86", name: str, size: int, value: int, count: int) -> 
     return result
 
 
+def _shift_of_some(m: "X86", name: str, size: int, value: Some, count: int) -> Some:
+    """The result of a number of which bits are unknown; it sets the flags."""
+    if name not in ("shl", "shr", "sar") or name == "sar" and _is_negative(value, size):
+        raise Fault("a shift of a number that isn't known")
+    result = _low(bits.shift_left(value, count), size) if name == "shl" else bits.shift_right(value, count)
+    m.flags = FoundFlags({
+        "c": lambda: None if name == "shl" else not bits.is_zero(bits.masked(value, 1 << count - 1)), "o": lambda: None,
+        "z": lambda: bits.is_zero(result), "s": lambda: _is_negative(result, size),
+    })
+    return result
+
+
 def _shift(name: str, operands: List[str], following: int) -> "Step":
     to = Operand(operands[0], following)
     by_one = len(operands) == 1 or operands[1] == "1"
@@ -299,7 +403,13 @@ def _shift(name: str, operands: List[str], following: int) -> "Step":
     def step(m: "X86") -> None:
         count = (number(by.get(m)) if by else 1) & (63 if to.size == 8 else 31)
         value = to.get(m)
-        if not isinstance(value, int):
+        its = some_of(value)
+        if isinstance(value, bits.Number) and (name, count) == ("shr", 32):
+            to.store(m, shr_64(value, count))
+            m.flags = _flags_of_later(lambda: bits.shift_right(some(value), count))
+        elif its is not None and not isinstance(its, int):
+            to.store(m, _shift_of_some(m, name, to.size, its, count) if count else its)
+        elif not isinstance(value, int):
             m.flags = None
             to.store(m, _shift_of_data(name, to.size, value, count))
         else:
@@ -315,8 +425,8 @@ def _product(operands: List[str], at: int, following: int) -> "Step":
     factor = number_of(operands[2]) if len(operands) == 3 else None
 
     def step(m: "X86") -> None:
-        other = number(to.get(m)) if factor is None else factor
-        to.store(m, number(source.get(m)) * other & (1 << 8 * to.size) - 1)
+        other = some(to.get(m)) if factor is None else factor
+        to.store(m, _low(bits.multiply(some(source.get(m)), other), to.size))
         m.flags = None
 
     return step
@@ -330,8 +440,12 @@ def _wide(name: str, operands: List[str], following: int) -> "Step":
         raise Fault("an operand of less than four bytes")
 
     def step(m: "X86") -> None:
-        x, least, most = number(operand.get(m)), number(m.get(RAX, size)), number(m.get(RDX, size))
-        if name == "mul":
+        x, least, most = number(operand.get(m)), some(m.get(RAX, size)), number(m.get(RDX, size))
+        if not isinstance(least, int):
+            if name != "div" or most or x & x - 1 or not x:
+                raise Fault("a product or a quotient that isn't known")
+            least, most = bits.cut(least, x.bit_length() - 1)[::-1]
+        elif name == "mul":
             most, least = divmod(x * least, 1 << 8 * size)
         else:
             dividend = most << 8 * size | least
@@ -368,14 +482,16 @@ def _count(name: str, operands: List[str], following: int) -> "Step":
     to, source = Operand(operands[0], following), Operand(operands[1], following)
 
     def step(m: "X86") -> None:
-        x = number(source.get(m))
+        x = some(source.get(m))
         if name == "popcnt":
-            to.store(m, bin(x).count("1"))
-            m.flags = {"z": x == 0, "s": False, "c": False, "o": False}
+            to.store(m, bits.count_ones(x))
+            m.flags = FoundFlags({"z": lambda: bits.is_zero(x), "s": lambda: False, "c": lambda: False, "o": lambda: False})
         else:
-            result = x & (x - 1)
+            is_none = bits.is_zero(x)
+            result = 0 if is_none else bits.and_(x, bits.subtract(x, 1))
             to.store(m, result)
-            set_flags(m, result, to.size, x == 0, False)
+            m.flags = FoundFlags({
+                "z": lambda: bits.is_zero(result), "s": lambda: _is_negative(result, to.size), "c": lambda: is_none, "o": lambda: False})
 
     return step
 

@@ -1,0 +1,51 @@
+"""What `check --numbers` runs at a level, and what it leaves out."""
+
+from __future__ import annotations
+
+import re
+from itertools import chain
+from typing import Dict, Iterator, List, Sequence, Tuple
+
+import contracts
+import hashers
+import rounds
+from contracts import Check, Course
+from layout import Library
+from long_messages import check_length
+from machine import Machine
+
+#: The functions that this isn't run for at a level, though it has them: nobody has seen a check of them pass there.
+LEFT_OUT: Dict[str, Sequence[str]] = {name: ("absorb_subtrees",) for name in ("x86-64-v3", "windows-x86-64-v3")}
+#: What no level is run for.
+NEVER: Sequence[str] = ("update_reader", "hashes of one group and of several at once")
+#: Whole messages: how many chunks they have, and how many bytes the last one has.
+CHUNKS: Tuple[int, ...] = (*range(1, 34), 63, 64, 65, 127, 128, 129, 255, 257, 511, 513, 1024, 1025)
+TAILS: Tuple[int, ...] = (1, 63, 64, 65, 600, 1023, 1024)
+#: The same of a short check.
+FEW_CHUNKS, FEW_TAILS = (1, 2, 9, 33, 1025), (1, 1024)
+
+
+def function_of(check: Check) -> str:
+    """The function that a check is of."""
+    found = re.match(r"\w+", check.name)
+    assert found
+    return found[0]
+
+
+def checks(course: Course) -> Iterator[Check]:
+    """The checks of a level."""
+    left_out = LEFT_OUT.get(course.library.level.name, ())
+    its = chain(contracts.checks(course), hashers.checks(course), rounds.checks(course))
+    return (it for it in its if function_of(it) not in left_out)
+
+
+def lengths(is_short: bool) -> List[int]:
+    """The lengths of whole messages."""
+    chunks, tails = (FEW_CHUNKS, FEW_TAILS) if is_short else (CHUNKS, TAILS)
+    return [1024 * (count - 1) + tail for count in chunks for tail in tails]
+
+
+def whole_messages(library: Library, is_short: bool) -> Iterator[Tuple[int, Machine]]:
+    """Runs whole messages whose blocks are compressed by unknown functions; gives each length, and the machine that ran it."""
+    for length in lengths(is_short):
+        yield length, check_length(library, length)

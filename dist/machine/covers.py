@@ -1,0 +1,85 @@
+"""Whether classes of numbers are all numbers. This file uses nothing else of this folder, so that it can be read alone.
+
+The numbers are choices of some bits, each 0 or 1. A class is a list of answers to questions in their order. A question is a bit, which the
+answer gives; a set of bits, of which the answer gives how many are 1; or a list of bits, of which the answer gives whether any is 1. A
+number is in a class if it has all its answers.
+"""
+
+from __future__ import annotations
+
+from math import comb
+from typing import Dict, FrozenSet, List, Sequence, Set, Tuple, Union
+
+Question = Union[int, FrozenSet[int], Tuple[int, ...]]
+Class = Tuple[Tuple[Question, int], ...]
+
+
+def gap(classes: Sequence[Class], depth: int = 0) -> str:
+    """What is missing, or nothing if each number is in exactly one class.
+
+    All classes ask the same question first. For each answer that it may have, those with this answer cover all that is left. The answers of
+    a bit, and of whether any is 1, are 0 and 1, and those of a set of bits are from 0 to how many they are. So a number is led to one class by its own answers."""
+    if len(classes) == 1 and len(classes[0]) == depth:
+        return ""
+    if any(len(its) == depth for its in classes):
+        return f"two classes have numbers in common, after {depth} answers"
+    questions = {its[depth][0] for its in classes}
+    if len(questions) != 1:
+        return f"{len(questions)} questions are asked at once, after {depth} answers"
+    question = questions.pop()
+    by_answer: Dict[int, List[Class]] = {}
+    for its in classes:
+        by_answer.setdefault(its[depth][1], []).append(its)
+    wanted = range(len(question) + 1 if isinstance(question, frozenset) else 2)
+    if set(by_answer) != set(wanted):
+        return f"of the answers 0 to {len(wanted) - 1}, {sorted(set(wanted) - set(by_answer))} are missing, after {depth} answers"
+    for part in by_answer.values():
+        found = gap(part, depth + 1)
+        if found:
+            return found
+    return ""
+
+
+def size(its: Class, bits: int) -> int:
+    """How many of 2^bits numbers a class has."""
+    known: Dict[int, int] = {}
+    sums: List[Tuple[FrozenSet[int], int]] = []
+    lists: List[Tuple[int, ...]] = []
+    for question, answer in its:
+        if isinstance(question, frozenset):
+            sums.append((question, answer))
+        elif isinstance(question, tuple) and answer:
+            lists.append(question)
+        else:
+            for bit in (question,) if isinstance(question, int) else question:
+                if known.setdefault(bit, answer) != answer:
+                    return 0
+    return _size(known, sums, lists, bits)
+
+
+def _size(known: Dict[int, int], sums: List[Tuple[FrozenSet[int], int]], lists: List[Tuple[int, ...]], bits: int) -> int:
+    """The same, of what is known of bits, sums, and lists of which a bit is 1. Those with a 1 in a list are all but those without."""
+    if lists:
+        one, others = lists[0], lists[1:]
+        if any(known.get(bit) for bit in one):
+            return _size(known, sums, others, bits)
+        return _size(known, sums, others, bits) - _size({**known, **dict.fromkeys(one, 0)}, sums, others, bits)
+    seen: Set[int] = set()
+    count = 1
+    for question, answer in sums:
+        if seen & question:
+            raise ValueError("sets of bits overlap")
+        seen |= question
+        left = answer - sum(known.get(bit, 0) for bit in question)
+        count *= comb(len([bit for bit in question if bit not in known]), left) if left >= 0 else 0
+    return count << bits - len(seen | set(known))
+
+
+def must_cover(classes: Sequence[Class], bits: int, what: str) -> None:
+    """Refuses classes that leave out a number, in two ways: by their questions, and by how many numbers they have together."""
+    found = gap(classes)
+    if found:
+        raise ValueError(f"{what}: {found}")
+    counted = sum(size(its, bits) for its in classes)
+    if counted != 1 << bits:
+        raise ValueError(f"{what}: {counted} numbers of 2^{bits} are in a class")
