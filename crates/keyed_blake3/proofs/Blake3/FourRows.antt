@@ -1,0 +1,146 @@
+-- Rows that four states share.
+use Rattle.std.proofs.Common.{◌≡◌, ℕ, zero, suc, ◌+◌, ◌*◌, ◌<◌, ◌≤◌, List, [], ◌∷◌, ◌++◌, drop, take, length, map, get_or, refl, sym, ap, ◌∙◌, arith}
+use Rattle.std.proofs.lemmas.List.{drop-drop, get_or-take}
+use Rattle.std.proofs.lemmas.List.FromFn.{fill_by_all, get_or-map-range_with_len}
+use Rattle.std.specs.Int.{from_le_bytes, w32}
+use Rattle.std.specs.List.{range_with_len}
+use Rattle.keyed_blake3.specs.Blake3.{block, permuted, words_at}
+use Rattle.keyed_blake3.specs.Steps.Lanes.{chunk_at, lane}
+use Rattle.keyed_blake3.specs.Steps.Rows.{from_second, quad_at, turned, turned_back, zipped}
+use Rattle.keyed_blake3.proofs.Blake3.Blocks.{word_at_place}
+use Rattle.keyed_blake3.proofs.Blake3.Rows.{eight, four, sixteen}
+use Rattle.keyed_blake3.proofs.Blake3.SharedRows.{pick}
+
+-- the same quad for each
+pub each-four : (j : ℕ) (x : List ℕ) → j < 4 → length x ≡ 4 → quad_at j (pick x x (0 ∷ 1 ∷ 2 ∷ 3 ∷ 0 ∷ 1 ∷ 2 ∷ 3 ∷ 0 ∷ 1 ∷ 2 ∷ 3 ∷ 0 ∷ 1 ∷ 2 ∷ 3 ∷ [])) ≡ x
+each-four zero x h hx = rw (four x hx) refl
+each-four (suc zero) x h hx = rw (four x hx) refl
+each-four (suc (suc zero)) x h hx = rw (four x hx) refl
+each-four (suc (suc (suc zero))) x h hx = rw (four x hx) refl
+each-four (suc (suc (suc (suc j)))) x h hx = absurd (omega arith)
+
+-- the message words by the part of the round that they enter
+pub quads-four : (j : ℕ) (p q r s : List ℕ) → j < 4 → length p ≡ 16 → length q ≡ 16 → length r ≡ 16 → length s ≡ 16
+    → zipped (quad_at j (pick p q (0 ∷ 2 ∷ 16 ∷ 18 ∷ 4 ∷ 6 ∷ 20 ∷ 22 ∷ 8 ∷ 10 ∷ 24 ∷ 26 ∷ 12 ∷ 14 ∷ 28 ∷ 30 ∷ []))) (quad_at j (pick p q (1 ∷ 3 ∷ 17 ∷ 19 ∷ 5 ∷ 7 ∷ 21 ∷ 23 ∷ 9 ∷ 11 ∷ 25 ∷ 27 ∷ 13 ∷ 15 ∷ 29 ∷ 31 ∷ [])))
+    ++ zipped (from_second (quad_at j (pick r s (18 ∷ 0 ∷ 2 ∷ 16 ∷ 22 ∷ 4 ∷ 6 ∷ 20 ∷ 26 ∷ 8 ∷ 10 ∷ 24 ∷ 30 ∷ 12 ∷ 14 ∷ 28 ∷ [])))) (from_second (quad_at j (pick r s (19 ∷ 1 ∷ 3 ∷ 17 ∷ 23 ∷ 5 ∷ 7 ∷ 21 ∷ 27 ∷ 9 ∷ 11 ∷ 25 ∷ 31 ∷ 13 ∷ 15 ∷ 29 ∷ []))))
+    ≡ quad_at j p ++ quad_at j q ++ quad_at j r ++ quad_at j s
+quads-four zero p q r s h hp hq hr hs = rw (sixteen p hp, sixteen q hq, sixteen r hr, sixteen s hs) refl
+quads-four (suc zero) p q r s h hp hq hr hs = rw (sixteen p hp, sixteen q hq, sixteen r hr, sixteen s hs) refl
+quads-four (suc (suc zero)) p q r s h hp hq hr hs = rw (sixteen p hp, sixteen q hq, sixteen r hr, sixteen s hs) refl
+quads-four (suc (suc (suc zero))) p q r s h hp hq hr hs = rw (sixteen p hp, sixteen q hq, sixteen r hr, sixteen s hs) refl
+quads-four (suc (suc (suc (suc j)))) p q r s h hp hq hr hs = absurd (omega arith)
+
+-- the message words of the next round
+pub permuted-four : (j : ℕ) (x y z w : List ℕ) → j < 4 → length x ≡ 16 → length y ≡ 16 → length z ≡ 16 → length w ≡ 16
+    → (let first = pick x y (2 ∷ 1 ∷ 17 ∷ 19 ∷ 6 ∷ 5 ∷ 21 ∷ 23 ∷ 10 ∷ 9 ∷ 25 ∷ 27 ∷ 14 ∷ 13 ∷ 29 ∷ 31 ∷ []) in
+    let second = pick x z (3 ∷ 18 ∷ 0 ∷ 0 ∷ 7 ∷ 22 ∷ 4 ∷ 4 ∷ 11 ∷ 26 ∷ 8 ∷ 8 ∷ 15 ∷ 30 ∷ 12 ∷ 12 ∷ []) in
+    let third = pick w y (0 ∷ 1 ∷ 16 ∷ 0 ∷ 4 ∷ 5 ∷ 20 ∷ 4 ∷ 8 ∷ 9 ∷ 24 ∷ 8 ∷ 12 ∷ 13 ∷ 28 ∷ 12 ∷ []) in
+    let fourth = pick z w (1 ∷ 18 ∷ 0 ∷ 0 ∷ 5 ∷ 22 ∷ 4 ∷ 4 ∷ 9 ∷ 26 ∷ 8 ∷ 8 ∷ 13 ∷ 30 ∷ 12 ∷ 12 ∷ []) in
+    zipped (quad_at j (pick first first (1 ∷ 2 ∷ 3 ∷ 0 ∷ 5 ∷ 6 ∷ 7 ∷ 4 ∷ 9 ∷ 10 ∷ 11 ∷ 8 ∷ 13 ∷ 14 ∷ 15 ∷ 12 ∷ []))) (quad_at j (pick second w (0 ∷ 1 ∷ 2 ∷ 19 ∷ 4 ∷ 5 ∷ 6 ∷ 23 ∷ 8 ∷ 9 ∷ 10 ∷ 27 ∷ 12 ∷ 13 ∷ 14 ∷ 31 ∷ [])))
+    ++ zipped (from_second (quad_at j (pick third z (0 ∷ 2 ∷ 19 ∷ 1 ∷ 4 ∷ 6 ∷ 23 ∷ 5 ∷ 8 ∷ 10 ∷ 27 ∷ 9 ∷ 12 ∷ 14 ∷ 31 ∷ 13 ∷ [])))) (from_second (quad_at j (pick fourth y (0 ∷ 1 ∷ 18 ∷ 2 ∷ 4 ∷ 5 ∷ 22 ∷ 6 ∷ 8 ∷ 9 ∷ 26 ∷ 10 ∷ 12 ∷ 13 ∷ 30 ∷ 14 ∷ [])))))
+    ≡ permuted (zipped (quad_at j x) (quad_at j y) ++ zipped (from_second (quad_at j z)) (from_second (quad_at j w)))
+permuted-four zero x y z w h hx hy hz hw = rw (sixteen x hx, sixteen y hy, sixteen z hz, sixteen w hw) refl
+permuted-four (suc zero) x y z w h hx hy hz hw = rw (sixteen x hx, sixteen y hy, sixteen z hz, sixteen w hw) refl
+permuted-four (suc (suc zero)) x y z w h hx hy hz hw = rw (sixteen x hx, sixteen y hy, sixteen z hz, sixteen w hw) refl
+permuted-four (suc (suc (suc zero))) x y z w h hx hy hz hw = rw (sixteen x hx, sixteen y hy, sixteen z hz, sixteen w hw) refl
+permuted-four (suc (suc (suc (suc j)))) x y z w h hx hy hz hw = absurd (omega arith)
+
+-- the rows but b turned, and turned back
+pub turned-four : (j : ℕ) (a b c d : List ℕ) → j < 4 → length a ≡ 16 → length b ≡ 16 → length c ≡ 16 → length d ≡ 16
+    → quad_at j (pick a a (3 ∷ 0 ∷ 1 ∷ 2 ∷ 7 ∷ 4 ∷ 5 ∷ 6 ∷ 11 ∷ 8 ∷ 9 ∷ 10 ∷ 15 ∷ 12 ∷ 13 ∷ 14 ∷ [])) ++ quad_at j b ++ quad_at j (pick c c (1 ∷ 2 ∷ 3 ∷ 0 ∷ 5 ∷ 6 ∷ 7 ∷ 4 ∷ 9 ∷ 10 ∷ 11 ∷ 8 ∷ 13 ∷ 14 ∷ 15 ∷ 12 ∷ []))
+    ++ quad_at j (pick d d (2 ∷ 3 ∷ 0 ∷ 1 ∷ 6 ∷ 7 ∷ 4 ∷ 5 ∷ 10 ∷ 11 ∷ 8 ∷ 9 ∷ 14 ∷ 15 ∷ 12 ∷ 13 ∷ [])) ≡ turned (quad_at j a ++ quad_at j b ++ quad_at j c ++ quad_at j d)
+turned-four zero a b c d h ha hb hc hd = rw (sixteen a ha, sixteen b hb, sixteen c hc, sixteen d hd) refl
+turned-four (suc zero) a b c d h ha hb hc hd = rw (sixteen a ha, sixteen b hb, sixteen c hc, sixteen d hd) refl
+turned-four (suc (suc zero)) a b c d h ha hb hc hd = rw (sixteen a ha, sixteen b hb, sixteen c hc, sixteen d hd) refl
+turned-four (suc (suc (suc zero))) a b c d h ha hb hc hd = rw (sixteen a ha, sixteen b hb, sixteen c hc, sixteen d hd) refl
+turned-four (suc (suc (suc (suc j)))) a b c d h ha hb hc hd = absurd (omega arith)
+
+pub turned_back-four : (j : ℕ) (a b c d : List ℕ) → j < 4 → length a ≡ 16 → length b ≡ 16 → length c ≡ 16 → length d ≡ 16
+    → quad_at j (pick a a (1 ∷ 2 ∷ 3 ∷ 0 ∷ 5 ∷ 6 ∷ 7 ∷ 4 ∷ 9 ∷ 10 ∷ 11 ∷ 8 ∷ 13 ∷ 14 ∷ 15 ∷ 12 ∷ [])) ++ quad_at j b ++ quad_at j (pick c c (3 ∷ 0 ∷ 1 ∷ 2 ∷ 7 ∷ 4 ∷ 5 ∷ 6 ∷ 11 ∷ 8 ∷ 9 ∷ 10 ∷ 15 ∷ 12 ∷ 13 ∷ 14 ∷ []))
+    ++ quad_at j (pick d d (2 ∷ 3 ∷ 0 ∷ 1 ∷ 6 ∷ 7 ∷ 4 ∷ 5 ∷ 10 ∷ 11 ∷ 8 ∷ 9 ∷ 14 ∷ 15 ∷ 12 ∷ 13 ∷ [])) ≡ turned_back (quad_at j a ++ quad_at j b ++ quad_at j c ++ quad_at j d)
+turned_back-four zero a b c d h ha hb hc hd = rw (sixteen a ha, sixteen b hb, sixteen c hc, sixteen d hd) refl
+turned_back-four (suc zero) a b c d h ha hb hc hd = rw (sixteen a ha, sixteen b hb, sixteen c hc, sixteen d hd) refl
+turned_back-four (suc (suc zero)) a b c d h ha hb hc hd = rw (sixteen a ha, sixteen b hb, sixteen c hc, sixteen d hd) refl
+turned_back-four (suc (suc (suc zero))) a b c d h ha hb hc hd = rw (sixteen a ha, sixteen b hb, sixteen c hc, sixteen d hd) refl
+turned_back-four (suc (suc (suc (suc j)))) a b c d h ha hb hc hd = absurd (omega arith)
+
+-- four quads side by side
+pub beside-four : (j : ℕ) (f : ℕ → List ℕ) (x : List ℕ) → j < 4 → x ≡ f 0 ++ f 1 ++ f 2 ++ f 3 → ((i : ℕ) → length (f i) ≡ 4) → quad_at j x ≡ f j
+beside-four zero f x h is size = rw (is, four (f 0) (size 0), four (f 1) (size 1), four (f 2) (size 2), four (f 3) (size 3)) refl
+beside-four (suc zero) f x h is size = rw (is, four (f 0) (size 0), four (f 1) (size 1), four (f 2) (size 2), four (f 3) (size 3)) refl
+beside-four (suc (suc zero)) f x h is size = rw (is, four (f 0) (size 0), four (f 1) (size 1), four (f 2) (size 2), four (f 3) (size 3)) refl
+beside-four (suc (suc (suc zero))) f x h is size = rw (is, four (f 0) (size 0), four (f 1) (size 1), four (f 2) (size 2), four (f 3) (size 3)) refl
+beside-four (suc (suc (suc (suc j)))) f x h is size = absurd (omega arith)
+
+-- the words of lanes at even places, and of those at odd places
+pub even-four : (j : ℕ) (a b c d : List ℕ) → j < 4 → length a ≡ 8 → length b ≡ 8 → length c ≡ 8 → length d ≡ 8
+    → quad_at j (pick (pick a b (0 ∷ 8 ∷ 2 ∷ 10 ∷ 4 ∷ 12 ∷ 6 ∷ 14 ∷ 1 ∷ 9 ∷ 3 ∷ 11 ∷ 5 ∷ 13 ∷ 7 ∷ 15 ∷ [])) (pick c d (0 ∷ 8 ∷ 2 ∷ 10 ∷ 4 ∷ 12 ∷ 6 ∷ 14 ∷ 1 ∷ 9 ∷ 3 ∷ 11 ∷ 5 ∷ 13 ∷ 7 ∷ 15 ∷ [])) (0 ∷ 1 ∷ 16 ∷ 17 ∷ 2 ∷ 3 ∷ 18 ∷ 19 ∷ 4 ∷ 5 ∷ 20 ∷ 21 ∷ 6 ∷ 7 ∷ 22 ∷ 23 ∷ []))
+    ≡ get_or a (2 * j) 0 ∷ get_or b (2 * j) 0 ∷ get_or c (2 * j) 0 ∷ get_or d (2 * j) 0 ∷ []
+even-four zero a b c d h ha hb hc hd = rw (eight a ha, eight b hb, eight c hc, eight d hd) refl
+even-four (suc zero) a b c d h ha hb hc hd = rw (eight a ha, eight b hb, eight c hc, eight d hd) refl
+even-four (suc (suc zero)) a b c d h ha hb hc hd = rw (eight a ha, eight b hb, eight c hc, eight d hd) refl
+even-four (suc (suc (suc zero))) a b c d h ha hb hc hd = rw (eight a ha, eight b hb, eight c hc, eight d hd) refl
+even-four (suc (suc (suc (suc j)))) a b c d h ha hb hc hd = absurd (omega arith)
+
+pub odd-four : (j : ℕ) (a b c d : List ℕ) → j < 4 → length a ≡ 8 → length b ≡ 8 → length c ≡ 8 → length d ≡ 8
+    → quad_at j (pick (pick a b (0 ∷ 8 ∷ 2 ∷ 10 ∷ 4 ∷ 12 ∷ 6 ∷ 14 ∷ 1 ∷ 9 ∷ 3 ∷ 11 ∷ 5 ∷ 13 ∷ 7 ∷ 15 ∷ [])) (pick c d (0 ∷ 8 ∷ 2 ∷ 10 ∷ 4 ∷ 12 ∷ 6 ∷ 14 ∷ 1 ∷ 9 ∷ 3 ∷ 11 ∷ 5 ∷ 13 ∷ 7 ∷ 15 ∷ [])) (8 ∷ 9 ∷ 24 ∷ 25 ∷ 10 ∷ 11 ∷ 26 ∷ 27 ∷ 12 ∷ 13 ∷ 28 ∷ 29 ∷ 14 ∷ 15 ∷ 30 ∷ 31 ∷ []))
+    ≡ get_or a (2 * j + 1) 0 ∷ get_or b (2 * j + 1) 0 ∷ get_or c (2 * j + 1) 0 ∷ get_or d (2 * j + 1) 0 ∷ []
+odd-four zero a b c d h ha hb hc hd = rw (eight a ha, eight b hb, eight c hc, eight d hd) refl
+odd-four (suc zero) a b c d h ha hb hc hd = rw (eight a ha, eight b hb, eight c hc, eight d hd) refl
+odd-four (suc (suc zero)) a b c d h ha hb hc hd = rw (eight a ha, eight b hb, eight c hc, eight d hd) refl
+odd-four (suc (suc (suc zero))) a b c d h ha hb hc hd = rw (eight a ha, eight b hb, eight c hc, eight d hd) refl
+odd-four (suc (suc (suc (suc j)))) a b c d h ha hb hc hd = absurd (omega arith)
+
+-- four of a vector's first eight lanes
+pub first_eight : (i : ℕ) (a b c d : List ℕ) → i < 8
+    → get_or (take 8 a) i 0 ∷ get_or (take 8 b) i 0 ∷ get_or (take 8 c) i 0 ∷ get_or (take 8 d) i 0 ∷ []
+    ≡ get_or a i 0 ∷ get_or b i 0 ∷ get_or c i 0 ∷ get_or d i 0 ∷ []
+first_eight i a b c d h = rw (get_or-take 8 a i 0 h, get_or-take 8 b i 0 h, get_or-take 8 c i 0 h, get_or-take 8 d i 0 h) refl
+
+-- a table of four words in a row, turned
+abbrev pub turned_table : List ℕ → List ℕ
+turned_table x = pick x x (0 ∷ 4 ∷ 8 ∷ 12 ∷ 1 ∷ 5 ∷ 9 ∷ 13 ∷ 2 ∷ 6 ∷ 10 ∷ 14 ∷ 3 ∷ 7 ∷ 11 ∷ 15 ∷ [])
+
+pub lanes-four : (j : ℕ) (a b : List ℕ) (v : List (List ℕ)) → j < 4 → length a ≡ 16 → length b ≡ 16
+    → v ≡ quad_at 0 (turned_table a) ∷ quad_at 1 (turned_table a) ∷ quad_at 2 (turned_table a) ∷ quad_at 3 (turned_table a)
+    ∷ quad_at 0 (turned_table b) ∷ quad_at 1 (turned_table b) ∷ quad_at 2 (turned_table b) ∷ quad_at 3 (turned_table b) ∷ []
+    → lane j v ≡ quad_at j a ++ quad_at j b
+lanes-four zero a b v h ha hb is = rw (is, sixteen a ha, sixteen b hb) refl
+lanes-four (suc zero) a b v h ha hb is = rw (is, sixteen a ha, sixteen b hb) refl
+lanes-four (suc (suc zero)) a b v h ha hb is = rw (is, sixteen a ha, sixteen b hb) refl
+lanes-four (suc (suc (suc zero))) a b v h ha hb is = rw (is, sixteen a ha, sixteen b hb) refl
+lanes-four (suc (suc (suc (suc j)))) a b v h ha hb is = absurd (omega arith)
+
+-- ---- blocks read by quads
+
+pub length-four_words : (bytes : List ℕ) → length (words_at 4 bytes) ≡ 4
+unfolding words_at
+length-four_words bytes = refl
+
+pub words_by_fours : (b : List ℕ) → words_at 4 b ++ words_at 4 (drop 16 b) ++ words_at 4 (drop 32 b) ++ words_at 4 (drop 48 b) ≡ words_at 16 b
+unfolding words_at
+words_by_fours b =
+    rw (
+      drop-drop 4 16 b,
+      drop-drop 8 16 b,
+      drop-drop 12 16 b,
+      drop-drop 4 32 b,
+      drop-drop 8 32 b,
+      drop-drop 12 32 b,
+      drop-drop 4 48 b,
+      drop-drop 8 48 b,
+      drop-drop 12 48 b,
+    ) refl
+
+-- four words of block n of chunk p, from word t on
+pub quad_of_block : (bytes : List ℕ) (p n : ℕ) → 1024 * p + 1024 ≤ length bytes → n < 16 → (at s t : ℕ) → at ≡ 64 * n + s → s ≡ 4 * t → t ≤ 12
+    → words_at 4 (drop (1024 * p + at) bytes) ≡ words_at 4 (drop s (block (chunk_at p bytes) n))
+unfolding words_at
+quad_of_block bytes p n long hn at s t is place few =
+    let b : List ℕ = block (chunk_at p bytes) n in
+    let word : (k : ℕ) → k < 4 → from_le_bytes w32 (drop (4 * k) (drop (1024 * p + at) bytes)) ≡ from_le_bytes w32 (drop (4 * k) (drop s b)) =
+    λ k h. ap (from_le_bytes w32) (drop-drop (4 * k) (1024 * p + at) bytes ∙ ap (λ (i : ℕ). drop i bytes) (omega (arith, is, place)))
+    ∙ word_at_place bytes p n (t + k) long hn (omega (arith, few))
+    ∙ ap (from_le_bytes w32) (sym (drop-drop (4 * k) s b ∙ ap (λ (i : ℕ). drop i b) (omega (arith, place)))) in
+    fill_by_all (λ (k : ℕ). from_le_bytes w32 (drop (4 * k) (drop s b))) (map (λ k. from_le_bytes w32 (drop (4 * k) (drop (1024 * p + at) bytes))) (range_with_len 0 4)) 4 0 refl
+    (λ k h. get_or-map-range_with_len (λ k. from_le_bytes w32 (drop (4 * k) (drop (1024 * p + at) bytes))) 0 4 k k 0 h (omega arith) ∙ word k h)
