@@ -355,7 +355,8 @@ fn four_parent_values<W: Width<L, B>, const L: usize, const B: usize>(
     lanes_of_values(&compress_all::<FourStates, 16, L>(&four_times(key), &d, &m))
 }
 
-// Returns the values of the parents of the first `count` subtrees, two for each.
+// Returns the values of the parents of the first `count` subtrees, two for each. Four parents at once take the longest vectors, which
+// slow the clock of some processors: so they do only where the lanes take these, too.
 fn joined_values<W: Width<L, B>, const L: usize, const B: usize>(
     key: &[u32; 8],
     values: &[Lanes<L>; 8],
@@ -370,7 +371,7 @@ fn joined_values<W: Width<L, B>, const L: usize, const B: usize>(
     if L == 4 || count <= 4 {
         return two_parent_values::<W, L, B>(key, values);
     }
-    if L == 8 || count <= 8 {
+    if L == WIDEST && count <= 8 {
         return lanes_of_four::<W, L, B>(&four_parent_values::<W, L, B>(key, values));
     }
     parent_values::<W, L, B>(key, values, values)

@@ -67,7 +67,6 @@ PLANTS: Dict[str, List[Plant]] = {
         Plant("an exchange of words in four chunks", "four_chunks::four_chunk_values", r"vpshufd\t\$78,", r"vpshufd\t$57,", 3),
         Plant("a rotation in the last round of four chunks", "four_chunks::four_chunk_values", r"vprold\t\$25,", r"vprold\t$24,", -1),
         Plant("a rotation in four parents", of_width("subtrees::four_parent_values", 16), r"vprold\t\$20,", r"vprold\t$19,", 4),
-        Plant("an exchange of words in four parents of eight lanes", of_width("subtrees::four_parent_values", 8), r"vpshufd\t\$57,", r"vpshufd\t$147,", 2),
         Plant("sixteen lanes a chunk too early", "hasher::Hasher::update", r"cmpq\t\$9216,", r"cmpq\t$8192,"),
         Plant("a frame that isn't aligned", of_width("chunks::chunk_values", 16), r"andq\t\$-64, %rsp", r"andq\t$-64, %rsp\n\tsubq\t$16, %rsp"),
         Plant("a register that isn't given back", of_width("chunks::take_block", 16), r"popq\t%rbp", r"popq\t%rcx", -1),

@@ -33,10 +33,10 @@ quads-four (suc (suc (suc (suc j)))) p q r s h hp hq hr hs = absurd (omega arith
 -- the message words of the next round
 pub permuted-four : (j : ℕ) (x y z w : List ℕ) → j < 4 → length x ≡ 16 → length y ≡ 16 → length z ≡ 16 → length w ≡ 16
     → (let first = pick x y (2 ∷ 1 ∷ 17 ∷ 19 ∷ 6 ∷ 5 ∷ 21 ∷ 23 ∷ 10 ∷ 9 ∷ 25 ∷ 27 ∷ 14 ∷ 13 ∷ 29 ∷ 31 ∷ []) in
-    let second = pick x z (3 ∷ 18 ∷ 0 ∷ 0 ∷ 7 ∷ 22 ∷ 4 ∷ 4 ∷ 11 ∷ 26 ∷ 8 ∷ 8 ∷ 15 ∷ 30 ∷ 12 ∷ 12 ∷ []) in
+    let second = pick z w (2 ∷ 2 ∷ 19 ∷ 19 ∷ 6 ∷ 6 ∷ 23 ∷ 23 ∷ 10 ∷ 10 ∷ 27 ∷ 27 ∷ 14 ∷ 14 ∷ 31 ∷ 31 ∷ []) in
     let third = pick w y (0 ∷ 1 ∷ 16 ∷ 0 ∷ 4 ∷ 5 ∷ 20 ∷ 4 ∷ 8 ∷ 9 ∷ 24 ∷ 8 ∷ 12 ∷ 13 ∷ 28 ∷ 12 ∷ []) in
     let fourth = pick z w (1 ∷ 18 ∷ 0 ∷ 0 ∷ 5 ∷ 22 ∷ 4 ∷ 4 ∷ 9 ∷ 26 ∷ 8 ∷ 8 ∷ 13 ∷ 30 ∷ 12 ∷ 12 ∷ []) in
-    zipped (quad_at j (pick first first (1 ∷ 2 ∷ 3 ∷ 0 ∷ 5 ∷ 6 ∷ 7 ∷ 4 ∷ 9 ∷ 10 ∷ 11 ∷ 8 ∷ 13 ∷ 14 ∷ 15 ∷ 12 ∷ []))) (quad_at j (pick second w (0 ∷ 1 ∷ 2 ∷ 19 ∷ 4 ∷ 5 ∷ 6 ∷ 23 ∷ 8 ∷ 9 ∷ 10 ∷ 27 ∷ 12 ∷ 13 ∷ 14 ∷ 31 ∷ [])))
+    zipped (quad_at j (pick first first (1 ∷ 2 ∷ 3 ∷ 0 ∷ 5 ∷ 6 ∷ 7 ∷ 4 ∷ 9 ∷ 10 ∷ 11 ∷ 8 ∷ 13 ∷ 14 ∷ 15 ∷ 12 ∷ []))) (quad_at j (pick x second (3 ∷ 16 ∷ 0 ∷ 18 ∷ 7 ∷ 20 ∷ 4 ∷ 22 ∷ 11 ∷ 24 ∷ 8 ∷ 26 ∷ 15 ∷ 28 ∷ 12 ∷ 30 ∷ [])))
     ++ zipped (from_second (quad_at j (pick third z (0 ∷ 2 ∷ 19 ∷ 1 ∷ 4 ∷ 6 ∷ 23 ∷ 5 ∷ 8 ∷ 10 ∷ 27 ∷ 9 ∷ 12 ∷ 14 ∷ 31 ∷ 13 ∷ [])))) (from_second (quad_at j (pick fourth y (0 ∷ 1 ∷ 18 ∷ 2 ∷ 4 ∷ 5 ∷ 22 ∷ 6 ∷ 8 ∷ 9 ∷ 26 ∷ 10 ∷ 12 ∷ 13 ∷ 30 ∷ 14 ∷ [])))))
     ≡ permuted (zipped (quad_at j x) (quad_at j y) ++ zipped (from_second (quad_at j z)) (from_second (quad_at j w)))
 permuted-four zero x y z w h hx hy hz hw = rw (sixteen x hx, sixteen y hy, sixteen z hz, sixteen w hw) refl
@@ -66,9 +66,9 @@ turned_back-four (suc (suc (suc (suc j)))) a b c d h ha hb hc hd = absurd (omega
 
 -- four quads side by side
 pub beside-four : (j : ℕ) (f : ℕ → List ℕ) (x : List ℕ) → j < 4 → x ≡ f 0 ++ f 1 ++ f 2 ++ f 3 → ((i : ℕ) → length (f i) ≡ 4) → quad_at j x ≡ f j
-beside-four zero f x h is size = rw (is, four (f 0) (size 0), four (f 1) (size 1), four (f 2) (size 2), four (f 3) (size 3)) refl
-beside-four (suc zero) f x h is size = rw (is, four (f 0) (size 0), four (f 1) (size 1), four (f 2) (size 2), four (f 3) (size 3)) refl
-beside-four (suc (suc zero)) f x h is size = rw (is, four (f 0) (size 0), four (f 1) (size 1), four (f 2) (size 2), four (f 3) (size 3)) refl
+beside-four zero f x h is size = rw (is, four (f 0) (size 0)) refl
+beside-four (suc zero) f x h is size = rw (is, four (f 0) (size 0), four (f 1) (size 1)) refl
+beside-four (suc (suc zero)) f x h is size = rw (is, four (f 0) (size 0), four (f 1) (size 1), four (f 2) (size 2)) refl
 beside-four (suc (suc (suc zero))) f x h is size = rw (is, four (f 0) (size 0), four (f 1) (size 1), four (f 2) (size 2), four (f 3) (size 3)) refl
 beside-four (suc (suc (suc (suc j)))) f x h is size = absurd (omega arith)
 

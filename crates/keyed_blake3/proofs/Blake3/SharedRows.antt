@@ -29,7 +29,7 @@ pub quads-both : {n : ℕ} → (f : ℕ → ℕ → ℕ) (j : ℕ) (x y z : List
 quads-both f j x y z h hx hy is = ap (quad_at j) is ∙ quad-zip2 f j x y h hx hy
 
 pub length-each : {n : ℕ} → (f : ℕ → ℕ) (x z : List ℕ) → length x ≡ n → z ≡ map f x → length z ≡ n
-length-each f x z hx is = ap length is ∙ length-map f x ∙ hx
+length-each f x z hx is = ap length is ∙ length-map _ _ ∙ hx
 
 pub quads-each : {n : ℕ} → (f : ℕ → ℕ) (j : ℕ) (x z : List ℕ) → j < n / 4 → length x ≡ n → z ≡ map f x → quad_at j z ≡ map f (quad_at j x)
 quads-each f j x z h hx is = ap (quad_at j) is ∙ quad-map f j x h hx

@@ -47,9 +47,15 @@ impl States<16> for FourStates {
                 [2, 1, 17, 19, 6, 5, 21, 23, 10, 9, 25, 27, 14, 13, 29, 31],
             )
             .swizzle([1, 2, 3, 0, 5, 6, 7, 4, 9, 10, 11, 8, 13, 14, 15, 12]);
-        let column_second = x
-            .shuffle(z, [3, 18, 0, 0, 7, 22, 4, 4, 11, 26, 8, 8, 15, 30, 12, 12])
-            .shuffle(w, [0, 1, 2, 19, 4, 5, 6, 23, 8, 9, 10, 27, 12, 13, 14, 31]);
+        // No shuffle takes words of two vectors from the same places: that would be a choice by a mask.
+        let z_and_w = z.shuffle(
+            w,
+            [2, 2, 19, 19, 6, 6, 23, 23, 10, 10, 27, 27, 14, 14, 31, 31],
+        );
+        let column_second = x.shuffle(
+            z_and_w,
+            [3, 16, 0, 18, 7, 20, 4, 22, 11, 24, 8, 26, 15, 28, 12, 30],
+        );
         let diagonal_first = w
             .shuffle(y, [0, 1, 16, 0, 4, 5, 20, 4, 8, 9, 24, 8, 12, 13, 28, 12])
             .shuffle(z, [0, 2, 19, 1, 4, 6, 23, 5, 8, 10, 27, 9, 12, 14, 31, 13]);
