@@ -1,5 +1,5 @@
 use Rattle.std.proofs.Common.{◌≡◌, ℕ, ◌+◌, ◌*◌, List, get_or, refl, ap, ◌∙◌, arith}
-use Rattle.keyed_blake3.specs.Blake3.{block}
+use Rattle.keyed_blake3.specs.Blake3.{block, words_at}
 use Rattle.keyed_blake3.specs.Steps.Lanes.{chunk_at}
 use Rattle.keyed_blake3.specs.Steps.Rows.{quad_at}
 use Rattle.keyed_blake3.proofs.Blake3.FourRows.{quad_of_block, words_by_fours}
@@ -7,6 +7,7 @@ use Rattle.keyed_blake3.proofs.Blake3.SharedRows.{both_parts}
 use Rattle.keyed_blake3.proofs.four_chunks.blocks_of.Goals as goal
 
 pub returns : goal.returns
+unfolding words_at
 returns c = λ j h.
     let bytes = c.args.chunks.now in
     let n = c.args.n in

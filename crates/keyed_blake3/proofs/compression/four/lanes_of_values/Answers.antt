@@ -1,4 +1,4 @@
-use Rattle.std.proofs.Common.{refl, ap, length}
+use Rattle.std.proofs.Common.{ℕ, List, [], ◌∷◌, refl, ap, length}
 use Rattle.keyed_blake3.proofs.Blake3.FourRows.{lanes-four}
 use Rattle.keyed_blake3.proofs.Blake3.InStep.{eight_full_of}
 use Rattle.keyed_blake3.proofs.compression.four.lanes_of_values.Goals as goal
@@ -11,5 +11,6 @@ returns-clause-full c =
 pub returns-clause-lanes : goal.returns-clause-lanes
 returns-clause-lanes c = λ j h.
     let v = c.args.h.now in
-    lanes-four j v.a v.b _ h v.full.0 v.full.1
+    let words : List (List ℕ) = c.lanes_of.result ∷ c.lanes_of-2.result ∷ c.lanes_of-3.result ∷ c.lanes_of-4.result ∷ c.lanes_of-5.result ∷ c.lanes_of-6.result ∷ c.lanes_of-7.result ∷ c.lanes_of-8.result ∷ [] in
+    lanes-four j v.a v.b words h v.full.0 v.full.1
     (rw (c.lanes_of.ensures, c.lanes_of-2.ensures, c.lanes_of-3.ensures, c.lanes_of-4.ensures, c.lanes_of-5.ensures, c.lanes_of-6.ensures, c.lanes_of-7.ensures, c.lanes_of-8.ensures, c.vector.ensures, c.vector-2.ensures) refl)
