@@ -91,11 +91,13 @@ odd-four (suc (suc zero)) a b c d h ha hb hc hd = rw (eight a ha, eight b hb, ei
 odd-four (suc (suc (suc zero))) a b c d h ha hb hc hd = rw (eight a ha, eight b hb, eight c hc, eight d hd) refl
 odd-four (suc (suc (suc (suc j)))) a b c d h ha hb hc hd = absurd (omega arith)
 
--- four of a vector's first eight lanes
+-- four of vectors' first eight lanes, which are read of a slice of these
 pub first_eight : (i : ℕ) (a b c d : List ℕ) → i < 8
-    → get_or (take 8 a) i 0 ∷ get_or (take 8 b) i 0 ∷ get_or (take 8 c) i 0 ∷ get_or (take 8 d) i 0 ∷ []
+    → get_or (take 8 (take 8 a)) i 0 ∷ get_or (take 8 (take 8 b)) i 0 ∷ get_or (take 8 (take 8 c)) i 0 ∷ get_or (take 8 (take 8 d)) i 0 ∷ []
     ≡ get_or a i 0 ∷ get_or b i 0 ∷ get_or c i 0 ∷ get_or d i 0 ∷ []
-first_eight i a b c d h = rw (get_or-take 8 a i 0 h, get_or-take 8 b i 0 h, get_or-take 8 c i 0 h, get_or-take 8 d i 0 h) refl
+first_eight i a b c d h =
+    let at : (x : List ℕ) → get_or (take 8 (take 8 x)) i 0 ≡ get_or x i 0 = λ x. get_or-take 8 (take 8 x) i 0 h ∙ get_or-take 8 x i 0 h in
+    rw (at a, at b, at c, at d) refl
 
 -- a table of four words in a row, turned
 abbrev pub turned_table : List ℕ → List ℕ
