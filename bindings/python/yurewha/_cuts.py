@@ -46,12 +46,12 @@ def hash_cuts(stream: Readable, cuts: Union[Chunker, Iterable[SupportsIndex]]) -
     return _chunks(left, iter(cuts), False)
 
 
-def _chunks(left: _Left, cuts: Iterable[SupportsIndex], are_a_chunkers: bool) -> Generator[Tuple[Hash, int], None, None]:
+def _chunks(left: _Left, cuts: Iterable[SupportsIndex], by_chunker: bool) -> Generator[Tuple[Hash, int], None, None]:
     for cut in cuts:
         end = checked_u64(cut, "a cut")
         if end < left.place:
             raise InvalidArguments(but_got(f"a cut must be at least the one before it, which is {left.place}", end))
-        if are_a_chunkers and end > left.end:
+        if by_chunker and end > left.end:
             raise InvalidArguments(but_got(f"a chunker's cut must be at most the number of bytes that it was given, {left.end}", end))
         yield left.chunk(end)
     if left.has_more():

@@ -627,3 +627,30 @@ mod maps {
         Ok(())
     }
 }
+
+mod forks {
+    use super::*;
+
+    /// What README says that a fork of xet-core needs, so that its `?` takes errors of this crate.
+    #[test]
+    fn take_errors_by_a_question_mark() {
+        enum ForksError {
+            Other(String),
+        }
+
+        impl From<CoreError> for ForksError {
+            fn from(error: CoreError) -> Self {
+                ForksError::Other(error.to_string())
+            }
+        }
+
+        fn merged(ranges: &[MerkleHashSubtree]) -> std::result::Result<Option<MerkleHash>, ForksError> {
+            Ok(MerkleHashSubtree::merge(ranges)?.final_hash())
+        }
+
+        let whole = MerkleHashSubtree::from_chunks(true, &chunks(0..3), true);
+        let ForksError::Other(message) = merged(&[whole.clone(), whole]).err().expect("an error");
+        assert_eq!(message, CoreError::InvalidArguments.to_string());
+        assert!(merged(&[]).is_ok());
+    }
+}
