@@ -649,7 +649,7 @@ mod forks {
         }
 
         let whole = MerkleHashSubtree::from_chunks(true, &chunks(0..3), true);
-        let ForksError::Other(message) = merged(&[whole.clone(), whole]).err().expect("an error");
+        let ForksError::Other(message) = merged(&[whole.clone(), whole]).expect_err("two whole lists");
         assert_eq!(message, CoreError::InvalidArguments.to_string());
         assert!(merged(&[]).is_ok());
     }
