@@ -401,6 +401,8 @@ class Update:
             source.finish(bits.add(MESSAGE, size), left, whole)
         source.must_be(self.added)
         if stopped == self.head:
+            if size == 0:
+                raise Fault("a round takes in nothing")
             self.must_arrive(after)
 
     def taken_by_round(self, source: Source, blocks: Some, rest: Some) -> Some:

@@ -54,6 +54,8 @@ def faults_of(name: str) -> Iterable[str]:
     tests = [test for group in value["testGroups"] for test in group["tests"]]
     if [test["tcId"] for test in tests] != list(range(1, value["numberOfTests"] + 1)):
         yield f"{name}.json: the numbers of the tests aren't 1 to numberOfTests"
+    if f"({name}.json) | {len(tests)} |" not in (FOLDER / "README.md").read_text():
+        yield f"README.md says another number of tests of {name}.json, which has {len(tests)}"
 
 
 def faults_of_script(name: str) -> Iterable[str]:
