@@ -4,7 +4,7 @@ from __future__ import annotations
 
 import re
 from itertools import chain
-from typing import Dict, Iterator, List, Sequence, Tuple
+from typing import Iterator, List, Sequence, Tuple
 
 import contracts
 import hashers
@@ -14,10 +14,8 @@ from layout import Library
 from long_messages import check_length
 from machine import Machine
 
-#: The functions that this isn't run for at a level, though it has them: nobody has seen a check of them pass there.
-LEFT_OUT: Dict[str, Sequence[str]] = {name: ("absorb_subtrees",) for name in ("x86-64-v3", "windows-x86-64-v3")}
 #: What no level is run for.
-NEVER: Sequence[str] = ("update_reader", "hashes of one group and of several at once")
+NEVER: Sequence[str] = ("hashes of one group and of several at once",)
 #: Whole messages: how many chunks they have, and how many bytes the last one has.
 CHUNKS: Tuple[int, ...] = (*range(1, 34), 63, 64, 65, 127, 128, 129, 255, 257, 511, 513, 1024, 1025)
 TAILS: Tuple[int, ...] = (1, 63, 64, 65, 600, 1023, 1024)
@@ -34,9 +32,7 @@ def function_of(check: Check) -> str:
 
 def checks(course: Course) -> Iterator[Check]:
     """The checks of a level."""
-    left_out = LEFT_OUT.get(course.library.level.name, ())
-    its = chain(contracts.checks(course), hashers.checks(course), rounds.checks(course))
-    return (it for it in its if function_of(it) not in left_out)
+    return chain(contracts.checks(course), hashers.checks(course), rounds.checks(course))
 
 
 def lengths(is_short: bool) -> List[int]:

@@ -9,7 +9,7 @@ from typing import TYPE_CHECKING, Any, Callable, Dict, List, Optional, Tuple
 
 from fault import Fault, number
 from x86_64.operands import REGISTERS, Place, Source, few_words_of, general, number_of, value_of, vector_of, words_of
-from words import M32, M64, Value, Word, add, add_64, and_, byte, from_bytes, high, low, or_, pair, ror, shl, shl_64, shr, shr_64, xor
+from words import M32, M64, Value, Word, add, add_64, and_, from_bytes, high, low, masked, or_, pair, ror, shl, shl_64, shr, shr_64, xor
 
 if TYPE_CHECKING:
     from x86_64.machine import X86, Step
@@ -108,7 +108,7 @@ def _signed(value: int) -> int:
 
 
 def _bytes_of(words: Vector) -> Vector:
-    return [byte(word, k) for word in words for k in range(4)]
+    return [masked(shr(word, 8 * k), 255) for word in words for k in range(4)]
 
 
 def _words_of_bytes(data: Vector) -> Vector:
