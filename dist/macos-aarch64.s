@@ -73701,11 +73701,11 @@ Lfunc_end232:
 	cmp	w0, #8
 	b.hi	LBB233_2
 	sub	w8, w0, #1
-	adrp	x9, "_.Lswitch.table.yurewha_c::status_text::proof_rule_text.957.rel"@PAGE
-	add	x9, x9, "_.Lswitch.table.yurewha_c::status_text::proof_rule_text.957.rel"@PAGEOFF
+	adrp	x9, "lswitch.table.yurewha_c::status_text::proof_rule_text.957.rel"@PAGE
+	add	x9, x9, "lswitch.table.yurewha_c::status_text::proof_rule_text.957.rel"@PAGEOFF
 	ldrsw	x10, [x9, w8, uxtw #2]
-	adrp	x11, "_.Lswitch.table.yurewha_c::status_text::proof_rule_text"@PAGE
-	add	x11, x11, "_.Lswitch.table.yurewha_c::status_text::proof_rule_text"@PAGEOFF
+	adrp	x11, "lswitch.table.yurewha_c::status_text::proof_rule_text"@PAGE
+	add	x11, x11, "lswitch.table.yurewha_c::status_text::proof_rule_text"@PAGEOFF
 	ldr	x1, [x11, w8, uxtw #3]
 	add	x0, x9, x10
 	ret
@@ -73724,11 +73724,11 @@ Lfunc_end233:
 	cmp	w0, #7
 	b.hi	LBB234_2
 	sub	w8, w0, #1
-	adrp	x9, "_.Lswitch.table.yurewha_c::status_text::session_rule_text.958.rel"@PAGE
-	add	x9, x9, "_.Lswitch.table.yurewha_c::status_text::session_rule_text.958.rel"@PAGEOFF
+	adrp	x9, "lswitch.table.yurewha_c::status_text::session_rule_text.958.rel"@PAGE
+	add	x9, x9, "lswitch.table.yurewha_c::status_text::session_rule_text.958.rel"@PAGEOFF
 	ldrsw	x10, [x9, w8, uxtw #2]
-	adrp	x11, "_.Lswitch.table.yurewha_c::status_text::session_rule_text"@PAGE
-	add	x11, x11, "_.Lswitch.table.yurewha_c::status_text::session_rule_text"@PAGEOFF
+	adrp	x11, "lswitch.table.yurewha_c::status_text::session_rule_text"@PAGE
+	add	x11, x11, "lswitch.table.yurewha_c::status_text::session_rule_text"@PAGEOFF
 	ldr	x1, [x11, w8, uxtw #3]
 	add	x0, x9, x10
 	ret
@@ -93820,7 +93820,7 @@ lstatic.90:
 
 	.section	__TEXT,__const
 	.p2align	3, 0x0
-"_.Lswitch.table.yurewha_c::status_text::proof_rule_text":
+"lswitch.table.yurewha_c::status_text::proof_rule_text":
 	.xword	55
 	.xword	44
 	.xword	61
@@ -93832,19 +93832,19 @@ lstatic.90:
 
 	.section	__TEXT,__const
 	.p2align	2, 0x0
-"_.Lswitch.table.yurewha_c::status_text::proof_rule_text.957.rel":
-	.word	lstatic.76-"_.Lswitch.table.yurewha_c::status_text::proof_rule_text.957.rel"
-	.word	lstatic.77-"_.Lswitch.table.yurewha_c::status_text::proof_rule_text.957.rel"
-	.word	lstatic.78-"_.Lswitch.table.yurewha_c::status_text::proof_rule_text.957.rel"
-	.word	lstatic.79-"_.Lswitch.table.yurewha_c::status_text::proof_rule_text.957.rel"
-	.word	lstatic.80-"_.Lswitch.table.yurewha_c::status_text::proof_rule_text.957.rel"
-	.word	lstatic.81-"_.Lswitch.table.yurewha_c::status_text::proof_rule_text.957.rel"
-	.word	lstatic.82-"_.Lswitch.table.yurewha_c::status_text::proof_rule_text.957.rel"
-	.word	lstatic.83-"_.Lswitch.table.yurewha_c::status_text::proof_rule_text.957.rel"
+"lswitch.table.yurewha_c::status_text::proof_rule_text.957.rel":
+	.word	lstatic.76-"lswitch.table.yurewha_c::status_text::proof_rule_text.957.rel"
+	.word	lstatic.77-"lswitch.table.yurewha_c::status_text::proof_rule_text.957.rel"
+	.word	lstatic.78-"lswitch.table.yurewha_c::status_text::proof_rule_text.957.rel"
+	.word	lstatic.79-"lswitch.table.yurewha_c::status_text::proof_rule_text.957.rel"
+	.word	lstatic.80-"lswitch.table.yurewha_c::status_text::proof_rule_text.957.rel"
+	.word	lstatic.81-"lswitch.table.yurewha_c::status_text::proof_rule_text.957.rel"
+	.word	lstatic.82-"lswitch.table.yurewha_c::status_text::proof_rule_text.957.rel"
+	.word	lstatic.83-"lswitch.table.yurewha_c::status_text::proof_rule_text.957.rel"
 
 	.section	__TEXT,__const
 	.p2align	3, 0x0
-"_.Lswitch.table.yurewha_c::status_text::session_rule_text":
+"lswitch.table.yurewha_c::status_text::session_rule_text":
 	.xword	35
 	.xword	48
 	.xword	59
@@ -93855,14 +93855,14 @@ lstatic.90:
 
 	.section	__TEXT,__const
 	.p2align	2, 0x0
-"_.Lswitch.table.yurewha_c::status_text::session_rule_text.958.rel":
-	.word	lstatic.84-"_.Lswitch.table.yurewha_c::status_text::session_rule_text.958.rel"
-	.word	lstatic.85-"_.Lswitch.table.yurewha_c::status_text::session_rule_text.958.rel"
-	.word	lstatic.86-"_.Lswitch.table.yurewha_c::status_text::session_rule_text.958.rel"
-	.word	lstatic.87-"_.Lswitch.table.yurewha_c::status_text::session_rule_text.958.rel"
-	.word	lstatic.75-"_.Lswitch.table.yurewha_c::status_text::session_rule_text.958.rel"
-	.word	lstatic.88-"_.Lswitch.table.yurewha_c::status_text::session_rule_text.958.rel"
-	.word	lstatic.89-"_.Lswitch.table.yurewha_c::status_text::session_rule_text.958.rel"
+"lswitch.table.yurewha_c::status_text::session_rule_text.958.rel":
+	.word	lstatic.84-"lswitch.table.yurewha_c::status_text::session_rule_text.958.rel"
+	.word	lstatic.85-"lswitch.table.yurewha_c::status_text::session_rule_text.958.rel"
+	.word	lstatic.86-"lswitch.table.yurewha_c::status_text::session_rule_text.958.rel"
+	.word	lstatic.87-"lswitch.table.yurewha_c::status_text::session_rule_text.958.rel"
+	.word	lstatic.75-"lswitch.table.yurewha_c::status_text::session_rule_text.958.rel"
+	.word	lstatic.88-"lswitch.table.yurewha_c::status_text::session_rule_text.958.rel"
+	.word	lstatic.89-"lswitch.table.yurewha_c::status_text::session_rule_text.958.rel"
 
 	.section	__TEXT,__const
 	.p2align	4

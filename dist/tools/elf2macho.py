@@ -57,7 +57,7 @@ def renamed(text: str) -> str:
 def name(old: str) -> str:
     """The name for macOS of one for Linux."""
     if old.startswith('"'):
-        return f'"_{old[1:]}'
+        return f'"{name(old[1:-1])}"'
     if old.startswith(".L"):
         return ("L" if INNER.match(old) else "l") + old[2:]
     return f"_{old}"
