@@ -15,7 +15,6 @@ returns-clause-first c =
       c.beside-3.ensures.words,
       c.beside-4.ensures.words,
       sixteen c.args.first.now c.told-first,
-      sixteen c.args.second.now c.told-second,
     ) refl
 
 pub returns-clause-second : goal.returns-clause-second
