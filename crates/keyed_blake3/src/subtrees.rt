@@ -371,7 +371,7 @@ fn joined_values<W: Width<L, B>, const L: usize, const B: usize>(
     if L == 4 || count <= 4 {
         return two_parent_values::<W, L, B>(key, values);
     }
-    if L == WIDEST && count <= 8 {
+    if L >= 8 && L >= WIDEST && count <= 8 {
         return lanes_of_four::<W, L, B>(&four_parent_values::<W, L, B>(key, values));
     }
     parent_values::<W, L, B>(key, values, values)

@@ -57,17 +57,6 @@ half_columns_by_steps a b c d x a0 a1 x1 d1 c1 x2 b1 r s ha hb hc hd hx e0 e1 e2
 
 -- ---- a round
 
--- the rows but b turned, and turned back
-pub turned_by_steps : (a b c d a1 c1 d1 : List ℕ) → length a ≡ 4 → length b ≡ 4 → length c ≡ 4 → length d ≡ 4
-    → a1 ≡ get_or a 3 0 ∷ get_or a 0 0 ∷ get_or a 1 0 ∷ get_or a 2 0 ∷ [] → c1 ≡ get_or c 1 0 ∷ get_or c 2 0 ∷ get_or c 3 0 ∷ get_or c 0 0 ∷ []
-    → d1 ≡ get_or d 2 0 ∷ get_or d 3 0 ∷ get_or d 0 0 ∷ get_or d 1 0 ∷ [] → a1 ++ b ++ c1 ++ d1 ≡ turned (a ++ b ++ c ++ d)
-turned_by_steps a b c d a1 c1 d1 ha hb hc hd ea ec ed = rw (ea, ec, ed, four a ha, four b hb, four c hc, four d hd) refl
-
-pub turned_back_by_steps : (a b c d a1 c1 d1 : List ℕ) → length a ≡ 4 → length b ≡ 4 → length c ≡ 4 → length d ≡ 4
-    → a1 ≡ get_or a 1 0 ∷ get_or a 2 0 ∷ get_or a 3 0 ∷ get_or a 0 0 ∷ [] → c1 ≡ get_or c 3 0 ∷ get_or c 0 0 ∷ get_or c 1 0 ∷ get_or c 2 0 ∷ []
-    → d1 ≡ get_or d 2 0 ∷ get_or d 3 0 ∷ get_or d 0 0 ∷ get_or d 1 0 ∷ [] → a1 ++ b ++ c1 ++ d1 ≡ turned_back (a ++ b ++ c ++ d)
-turned_back_by_steps a b c d a1 c1 d1 ha hb hc hd ea ec ed = rw (ea, ec, ed, four a ha, four b hb, four c hc, four d hd) refl
-
 -- the words of message vectors at a lane
 abbrev pub quad : ℕ → List (List ℕ) → ℕ → ℕ → ℕ → ℕ → List ℕ
 quad j m i k n p = get_or (get_or m i []) j 0 ∷ get_or (get_or m k []) j 0 ∷ get_or (get_or m n []) j 0 ∷ get_or (get_or m p []) j 0 ∷ []

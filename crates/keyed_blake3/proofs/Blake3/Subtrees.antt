@@ -19,18 +19,6 @@ beside_left v w j size full h =
     sym (fill_by_all (λ (k : ℕ). get_or (get_or v k [] ++ get_or w k []) j 0) (lane j v) 8 0 (length-map _ _ ∙ size)
     (λ k fits. sym (lane_at j v k) ∙ sym (get_or_append_left (get_or v k []) (get_or w k []) 0 j (rw (full_at v k full (rw size fits)) h))))
 
--- more lanes than four, which divide a block's words
-pub eight_lanes : (l : ℕ) → 4 < l → 16 / l * l ≡ 16 → 8 ≤ l
-eight_lanes zero more whole = absurd (omega (arith, more, whole))
-eight_lanes (suc zero) more whole = absurd (omega (arith, more, whole))
-eight_lanes (suc (suc zero)) more whole = absurd (omega (arith, more, whole))
-eight_lanes (suc (suc (suc zero))) more whole = absurd (omega (arith, more, whole))
-eight_lanes (suc (suc (suc (suc zero)))) more whole = absurd (omega (arith, more, whole))
-eight_lanes (suc (suc (suc (suc (suc zero))))) more whole = absurd (omega (arith, more, whole))
-eight_lanes (suc (suc (suc (suc (suc (suc zero)))))) more whole = absurd (omega (arith, more, whole))
-eight_lanes (suc (suc (suc (suc (suc (suc (suc zero))))))) more whole = absurd (omega (arith, more, whole))
-eight_lanes (suc (suc (suc (suc (suc (suc (suc (suc l)))))))) more whole = omega arith
-
 -- ---- subtrees
 
 -- as many bytes as some chunks have
