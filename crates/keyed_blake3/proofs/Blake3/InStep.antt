@@ -9,7 +9,7 @@ use Rattle.keyed_blake3.specs.Steps.Lanes.{AreFull, lane}
 use Rattle.keyed_blake3.specs.Steps.Rows.{half_columns, turned, turned_back}
 use Rattle.keyed_blake3.specs.declared.compression.lane_rows.Row.{Row}
 use Rattle.keyed_blake3.proofs.Blake3.Lanes.{both_at, both_full, lane_at}
-use Rattle.keyed_blake3.proofs.Blake3.Rows.{columns, columns_by_halves, diagonals, diagonals_by_halves, folded-rows, four, half_columns-rows}
+use Rattle.keyed_blake3.proofs.Blake3.Rows.{columns, columns_by_halves, diagonals, diagonals_by_halves, folded-rows, half_columns-rows}
 use lib.Lanes.{zip2}
 
 -- ---- half of G on each column

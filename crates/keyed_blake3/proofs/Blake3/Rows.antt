@@ -1,11 +1,11 @@
 -- Rows of four words, and the laws of the columns.
-use Rattle.std.proofs.Common.{◌≡◌, ℕ, ◌-◌, ◌*◌, ◌/◌, ◌%◌, ◌^◌, ◌<◌, ◌≤◌, List, [], ◌∷◌, ◌++◌, length, map, get_or, replicate, bit_or, bit_xor, slice_index, refl, sym, ◌∙◌, arith}
+use Rattle.std.proofs.Common.{◌≡◌, ℕ, ◌-◌, ◌*◌, ◌/◌, ◌%◌, ◌^◌, ◌<◌, ◌≤◌, List, [], ◌∷◌, ◌++◌, length, map, get_or, replicate, bit_or, bit_xor, slice_index, refl, arith}
 use Rattle.std.specs.Int.{rotate_right, w32}
 use Rattle.std.specs.List.{range_with_len}
 use Rattle.keyed_blake3.specs.Blake3.{add32, compress, first_state, folded, half_mix, mix, permuted, round, rounds}
 use Rattle.keyed_blake3.specs.Steps.Rows.{from_second, half_columns, turned, turned_back}
 use Rattle.std.proofs.lemmas.List.FromFn.{fill_by_all}
-use Rattle.std.proofs.lemmas.Simd.{length-zip2, zip2-map, zip2_splat}
+use Rattle.std.proofs.lemmas.Simd.{zip2-map, zip2_splat}
 use lib.Lanes.{zip2}
 
 -- four words

@@ -1,9 +1,9 @@
 -- Rows that states share.
-use Rattle.std.proofs.Common.{◌≡◌, ℕ, ◌+◌, ◌*◌, ◌/◌, ◌%◌, ◌^◌, ◌<◌, List, [], ◌∷◌, ◌++◌, length, map, get_or, refl, sym, ap, ◌∙◌, arith}
+use Rattle.std.proofs.Common.{◌≡◌, ℕ, ◌+◌, ◌*◌, ◌/◌, ◌%◌, ◌^◌, ◌<◌, List, [], ◌∷◌, ◌++◌, length, map, get_or, refl, ap, ◌∙◌, arith}
 use Rattle.std.proofs.lemmas.List.{get_or-map as get_or-map-at, length-map}
-use Rattle.std.proofs.lemmas.Simd.{get_or-zip2, length-zip2}
 use Rattle.keyed_blake3.specs.Blake3.{first_state, initialization_vector}
 use Rattle.keyed_blake3.specs.Steps.Rows.{quad_at}
+use Rattle.keyed_blake3.proofs.Blake3.Lanes.{both_at, both_full}
 use lib.Lanes.{zip2}
 
 -- the lanes of one vector, or of two, in a quad
@@ -11,7 +11,7 @@ quad-zip2 : {n : ℕ} → (f : ℕ → ℕ → ℕ) (j : ℕ) (x y : List ℕ) �
     → quad_at j (zip2 f x y) ≡ zip2 f (quad_at j x) (quad_at j y)
 quad-zip2 f j x y h hx hy =
     let at : (k : ℕ) → k < 4 → get_or (zip2 f x y) (4 * j + k) 0 ≡ f (get_or x (4 * j + k) 0) (get_or y (4 * j + k) 0) =
-    λ k below. get_or-zip2 f x y (4 * j + k) 0 0 0 (rw hx (omega arith)) (rw hy (omega arith)) in
+    λ k below. both_at f (4 * j + k) x y (omega arith) hx hy in
     rw (at 0 (omega arith), at 1 (omega arith), at 2 (omega arith), at 3 (omega arith)) refl
 
 quad-map : {n : ℕ} → (f : ℕ → ℕ) (j : ℕ) (x : List ℕ) → j < n / 4 → length x ≡ n → quad_at j (map f x) ≡ map f (quad_at j x)
@@ -22,7 +22,7 @@ quad-map f j x h hx =
 
 -- a vector made of one vector's lanes, or of two
 pub length-both : {n : ℕ} → (f : ℕ → ℕ → ℕ) (x y z : List ℕ) → length x ≡ n → length y ≡ n → z ≡ zip2 f x y → length z ≡ n
-length-both f x y z hx hy is = ap length is ∙ length-zip2 f x y (hx ∙ sym hy) ∙ hx
+length-both f x y z hx hy is = ap length is ∙ both_full f x y hx hy
 
 pub quads-both : {n : ℕ} → (f : ℕ → ℕ → ℕ) (j : ℕ) (x y z : List ℕ) → j < n / 4 → length x ≡ n → length y ≡ n → z ≡ zip2 f x y
     → quad_at j z ≡ zip2 f (quad_at j x) (quad_at j y)

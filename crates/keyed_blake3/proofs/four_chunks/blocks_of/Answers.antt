@@ -1,4 +1,4 @@
-use Rattle.std.proofs.Common.{◌≡◌, ℕ, ◌+◌, ◌*◌, List, get_or, refl, ap, ◌∙◌, arith}
+use Rattle.std.proofs.Common.{ℕ, ◌+◌, ◌*◌, get_or, refl, ap, ◌∙◌, arith}
 use Rattle.keyed_blake3.specs.Blake3.{block, words_at}
 use Rattle.keyed_blake3.specs.Steps.Lanes.{chunk_at}
 use Rattle.keyed_blake3.specs.Steps.Rows.{quad_at}

@@ -1,4 +1,4 @@
-use Rattle.std.proofs.Common.{◌≡◌, ℕ, ◌+◌, ◌≤◌, List, get_or, sym, ap, arith, ◌∙◌}
+use Rattle.std.proofs.Common.{ℕ, ◌+◌, ◌≤◌, List, get_or, sym, ap, arith, ◌∙◌}
 use Rattle.keyed_blake3.specs.Blake3.{block, blocks_before_last, compress, words_at}
 use Rattle.keyed_blake3.specs.Steps.Blocks.{block_flags}
 use Rattle.keyed_blake3.specs.Steps.Lanes.{chunk_at}

@@ -1,4 +1,4 @@
-use Rattle.std.proofs.Common.{◌≡◌, ℕ, ◌+◌, ◌*◌, length, take, arith, ◌∙◌}
+use Rattle.std.proofs.Common.{◌+◌, ◌*◌, take, arith, ◌∙◌}
 use Rattle.std.proofs.lemmas.List.{length-take-le}
 use Rattle.keyed_blake3.proofs.Blake3.FourRows.{even-four, first_eight, odd-four}
 use Rattle.keyed_blake3.proofs.compression.four.of_neighbours.Goals as goal
