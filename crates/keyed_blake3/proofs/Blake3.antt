@@ -9,10 +9,8 @@ pub mod LaneBytes
 pub mod Lanes
 pub mod Merging
 pub mod Messages
-pub mod OneRows
 pub mod Rows
 pub mod SharedRows
 pub mod Subtrees
 pub mod Turned
-pub mod TwoRows
 pub mod Waiting

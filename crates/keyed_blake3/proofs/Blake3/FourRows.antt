@@ -1,68 +1,15 @@
--- Rows that four states share.
+-- Four chaining values and four blocks, in the rows that four states share.
 use Rattle.std.proofs.Common.{◌≡◌, ℕ, zero, suc, ◌+◌, ◌*◌, ◌<◌, ◌≤◌, List, [], ◌∷◌, ◌++◌, drop, take, length, map, get_or, refl, sym, ap, ◌∙◌, arith}
 use Rattle.std.proofs.lemmas.List.{drop-drop, get_or-take}
 use Rattle.std.proofs.lemmas.List.FromFn.{fill_by_all, get_or-map-range_with_len}
 use Rattle.std.specs.Int.{from_le_bytes, w32}
 use Rattle.std.specs.List.{range_with_len}
-use Rattle.keyed_blake3.specs.Blake3.{block, permuted, words_at}
+use Rattle.keyed_blake3.specs.Blake3.{block, words_at}
 use Rattle.keyed_blake3.specs.Steps.Lanes.{chunk_at, lane}
-use Rattle.keyed_blake3.specs.Steps.Rows.{from_second, quad_at, turned, turned_back, zipped}
+use Rattle.keyed_blake3.specs.Steps.Rows.{quad_at}
 use Rattle.keyed_blake3.proofs.Blake3.Blocks.{word_at_place}
 use Rattle.keyed_blake3.proofs.Blake3.Rows.{eight, four, sixteen}
 use Rattle.keyed_blake3.proofs.Blake3.SharedRows.{pick}
-
--- the same quad for each
-pub each-four : (j : ℕ) (x : List ℕ) → j < 4 → length x ≡ 4 → quad_at j (pick x x (0 ∷ 1 ∷ 2 ∷ 3 ∷ 0 ∷ 1 ∷ 2 ∷ 3 ∷ 0 ∷ 1 ∷ 2 ∷ 3 ∷ 0 ∷ 1 ∷ 2 ∷ 3 ∷ [])) ≡ x
-each-four zero x h hx = rw (four x hx) refl
-each-four (suc zero) x h hx = rw (four x hx) refl
-each-four (suc (suc zero)) x h hx = rw (four x hx) refl
-each-four (suc (suc (suc zero))) x h hx = rw (four x hx) refl
-each-four (suc (suc (suc (suc j)))) x h hx = absurd (omega arith)
-
--- the message words by the part of the round that they enter
-pub quads-four : (j : ℕ) (p q r s : List ℕ) → j < 4 → length p ≡ 16 → length q ≡ 16 → length r ≡ 16 → length s ≡ 16
-    → zipped (quad_at j (pick p q (0 ∷ 2 ∷ 16 ∷ 18 ∷ 4 ∷ 6 ∷ 20 ∷ 22 ∷ 8 ∷ 10 ∷ 24 ∷ 26 ∷ 12 ∷ 14 ∷ 28 ∷ 30 ∷ []))) (quad_at j (pick p q (1 ∷ 3 ∷ 17 ∷ 19 ∷ 5 ∷ 7 ∷ 21 ∷ 23 ∷ 9 ∷ 11 ∷ 25 ∷ 27 ∷ 13 ∷ 15 ∷ 29 ∷ 31 ∷ [])))
-    ++ zipped (from_second (quad_at j (pick r s (18 ∷ 0 ∷ 2 ∷ 16 ∷ 22 ∷ 4 ∷ 6 ∷ 20 ∷ 26 ∷ 8 ∷ 10 ∷ 24 ∷ 30 ∷ 12 ∷ 14 ∷ 28 ∷ [])))) (from_second (quad_at j (pick r s (19 ∷ 1 ∷ 3 ∷ 17 ∷ 23 ∷ 5 ∷ 7 ∷ 21 ∷ 27 ∷ 9 ∷ 11 ∷ 25 ∷ 31 ∷ 13 ∷ 15 ∷ 29 ∷ []))))
-    ≡ quad_at j p ++ quad_at j q ++ quad_at j r ++ quad_at j s
-quads-four zero p q r s h hp hq hr hs = rw (sixteen p hp, sixteen q hq, sixteen r hr, sixteen s hs) refl
-quads-four (suc zero) p q r s h hp hq hr hs = rw (sixteen p hp, sixteen q hq, sixteen r hr, sixteen s hs) refl
-quads-four (suc (suc zero)) p q r s h hp hq hr hs = rw (sixteen p hp, sixteen q hq, sixteen r hr, sixteen s hs) refl
-quads-four (suc (suc (suc zero))) p q r s h hp hq hr hs = rw (sixteen p hp, sixteen q hq, sixteen r hr, sixteen s hs) refl
-quads-four (suc (suc (suc (suc j)))) p q r s h hp hq hr hs = absurd (omega arith)
-
--- the message words of the next round
-pub permuted-four : (j : ℕ) (x y z w : List ℕ) → j < 4 → length x ≡ 16 → length y ≡ 16 → length z ≡ 16 → length w ≡ 16
-    → (let first = pick x y (2 ∷ 1 ∷ 17 ∷ 19 ∷ 6 ∷ 5 ∷ 21 ∷ 23 ∷ 10 ∷ 9 ∷ 25 ∷ 27 ∷ 14 ∷ 13 ∷ 29 ∷ 31 ∷ []) in
-    let second = pick z w (2 ∷ 2 ∷ 19 ∷ 19 ∷ 6 ∷ 6 ∷ 23 ∷ 23 ∷ 10 ∷ 10 ∷ 27 ∷ 27 ∷ 14 ∷ 14 ∷ 31 ∷ 31 ∷ []) in
-    let third = pick w y (0 ∷ 1 ∷ 16 ∷ 0 ∷ 4 ∷ 5 ∷ 20 ∷ 4 ∷ 8 ∷ 9 ∷ 24 ∷ 8 ∷ 12 ∷ 13 ∷ 28 ∷ 12 ∷ []) in
-    let fourth = pick z w (1 ∷ 18 ∷ 0 ∷ 0 ∷ 5 ∷ 22 ∷ 4 ∷ 4 ∷ 9 ∷ 26 ∷ 8 ∷ 8 ∷ 13 ∷ 30 ∷ 12 ∷ 12 ∷ []) in
-    zipped (quad_at j (pick first first (1 ∷ 2 ∷ 3 ∷ 0 ∷ 5 ∷ 6 ∷ 7 ∷ 4 ∷ 9 ∷ 10 ∷ 11 ∷ 8 ∷ 13 ∷ 14 ∷ 15 ∷ 12 ∷ []))) (quad_at j (pick x second (3 ∷ 16 ∷ 0 ∷ 18 ∷ 7 ∷ 20 ∷ 4 ∷ 22 ∷ 11 ∷ 24 ∷ 8 ∷ 26 ∷ 15 ∷ 28 ∷ 12 ∷ 30 ∷ [])))
-    ++ zipped (from_second (quad_at j (pick third z (0 ∷ 2 ∷ 19 ∷ 1 ∷ 4 ∷ 6 ∷ 23 ∷ 5 ∷ 8 ∷ 10 ∷ 27 ∷ 9 ∷ 12 ∷ 14 ∷ 31 ∷ 13 ∷ [])))) (from_second (quad_at j (pick fourth y (0 ∷ 1 ∷ 18 ∷ 2 ∷ 4 ∷ 5 ∷ 22 ∷ 6 ∷ 8 ∷ 9 ∷ 26 ∷ 10 ∷ 12 ∷ 13 ∷ 30 ∷ 14 ∷ [])))))
-    ≡ permuted (zipped (quad_at j x) (quad_at j y) ++ zipped (from_second (quad_at j z)) (from_second (quad_at j w)))
-permuted-four zero x y z w h hx hy hz hw = rw (sixteen x hx, sixteen y hy, sixteen z hz, sixteen w hw) refl
-permuted-four (suc zero) x y z w h hx hy hz hw = rw (sixteen x hx, sixteen y hy, sixteen z hz, sixteen w hw) refl
-permuted-four (suc (suc zero)) x y z w h hx hy hz hw = rw (sixteen x hx, sixteen y hy, sixteen z hz, sixteen w hw) refl
-permuted-four (suc (suc (suc zero))) x y z w h hx hy hz hw = rw (sixteen x hx, sixteen y hy, sixteen z hz, sixteen w hw) refl
-permuted-four (suc (suc (suc (suc j)))) x y z w h hx hy hz hw = absurd (omega arith)
-
--- the rows but b turned, and turned back
-pub turned-four : (j : ℕ) (a b c d : List ℕ) → j < 4 → length a ≡ 16 → length b ≡ 16 → length c ≡ 16 → length d ≡ 16
-    → quad_at j (pick a a (3 ∷ 0 ∷ 1 ∷ 2 ∷ 7 ∷ 4 ∷ 5 ∷ 6 ∷ 11 ∷ 8 ∷ 9 ∷ 10 ∷ 15 ∷ 12 ∷ 13 ∷ 14 ∷ [])) ++ quad_at j b ++ quad_at j (pick c c (1 ∷ 2 ∷ 3 ∷ 0 ∷ 5 ∷ 6 ∷ 7 ∷ 4 ∷ 9 ∷ 10 ∷ 11 ∷ 8 ∷ 13 ∷ 14 ∷ 15 ∷ 12 ∷ []))
-    ++ quad_at j (pick d d (2 ∷ 3 ∷ 0 ∷ 1 ∷ 6 ∷ 7 ∷ 4 ∷ 5 ∷ 10 ∷ 11 ∷ 8 ∷ 9 ∷ 14 ∷ 15 ∷ 12 ∷ 13 ∷ [])) ≡ turned (quad_at j a ++ quad_at j b ++ quad_at j c ++ quad_at j d)
-turned-four zero a b c d h ha hb hc hd = rw (sixteen a ha, sixteen b hb, sixteen c hc, sixteen d hd) refl
-turned-four (suc zero) a b c d h ha hb hc hd = rw (sixteen a ha, sixteen b hb, sixteen c hc, sixteen d hd) refl
-turned-four (suc (suc zero)) a b c d h ha hb hc hd = rw (sixteen a ha, sixteen b hb, sixteen c hc, sixteen d hd) refl
-turned-four (suc (suc (suc zero))) a b c d h ha hb hc hd = rw (sixteen a ha, sixteen b hb, sixteen c hc, sixteen d hd) refl
-turned-four (suc (suc (suc (suc j)))) a b c d h ha hb hc hd = absurd (omega arith)
-
-pub turned_back-four : (j : ℕ) (a b c d : List ℕ) → j < 4 → length a ≡ 16 → length b ≡ 16 → length c ≡ 16 → length d ≡ 16
-    → quad_at j (pick a a (1 ∷ 2 ∷ 3 ∷ 0 ∷ 5 ∷ 6 ∷ 7 ∷ 4 ∷ 9 ∷ 10 ∷ 11 ∷ 8 ∷ 13 ∷ 14 ∷ 15 ∷ 12 ∷ [])) ++ quad_at j b ++ quad_at j (pick c c (3 ∷ 0 ∷ 1 ∷ 2 ∷ 7 ∷ 4 ∷ 5 ∷ 6 ∷ 11 ∷ 8 ∷ 9 ∷ 10 ∷ 15 ∷ 12 ∷ 13 ∷ 14 ∷ []))
-    ++ quad_at j (pick d d (2 ∷ 3 ∷ 0 ∷ 1 ∷ 6 ∷ 7 ∷ 4 ∷ 5 ∷ 10 ∷ 11 ∷ 8 ∷ 9 ∷ 14 ∷ 15 ∷ 12 ∷ 13 ∷ [])) ≡ turned_back (quad_at j a ++ quad_at j b ++ quad_at j c ++ quad_at j d)
-turned_back-four zero a b c d h ha hb hc hd = rw (sixteen a ha, sixteen b hb, sixteen c hc, sixteen d hd) refl
-turned_back-four (suc zero) a b c d h ha hb hc hd = rw (sixteen a ha, sixteen b hb, sixteen c hc, sixteen d hd) refl
-turned_back-four (suc (suc zero)) a b c d h ha hb hc hd = rw (sixteen a ha, sixteen b hb, sixteen c hc, sixteen d hd) refl
-turned_back-four (suc (suc (suc zero))) a b c d h ha hb hc hd = rw (sixteen a ha, sixteen b hb, sixteen c hc, sixteen d hd) refl
-turned_back-four (suc (suc (suc (suc j)))) a b c d h ha hb hc hd = absurd (omega arith)
 
 -- four quads side by side
 pub beside-four : (j : ℕ) (f : ℕ → List ℕ) (x : List ℕ) → j < 4 → x ≡ f 0 ++ f 1 ++ f 2 ++ f 3 → ((i : ℕ) → length (f i) ≡ 4) → quad_at j x ≡ f j

@@ -6,10 +6,10 @@ use Rattle.std.specs.Int.{rotate_right, w32}
 use Rattle.keyed_blake3.specs.Blake3.{add32, first_state, folded, round}
 use Rattle.keyed_blake3.specs.Steps.LaneRows.{row_at}
 use Rattle.keyed_blake3.specs.Steps.Lanes.{AreFull, lane}
-use Rattle.keyed_blake3.specs.Steps.Rows.{half_columns, turned, turned_back}
+use Rattle.keyed_blake3.specs.Steps.Rows.{half_columns}
 use Rattle.keyed_blake3.specs.declared.compression.lane_rows.Row.{Row}
 use Rattle.keyed_blake3.proofs.Blake3.Lanes.{both_at, both_full, lane_at}
-use Rattle.keyed_blake3.proofs.Blake3.Rows.{columns, columns_by_halves, diagonals, diagonals_by_halves, folded-rows, half_columns-rows}
+use Rattle.keyed_blake3.proofs.Blake3.Rows.{columns, diagonals, folded-rows, half_columns-rows}
 use lib.Lanes.{zip2}
 
 -- ---- half of G on each column
@@ -73,21 +73,6 @@ unfolding round columns diagonals
 round_in_step j m v =
     let at = lane_at j m in
     rw (at 0, at 1, at 2, at 3, at 4, at 5, at 6, at 7, at 8, at 9, at 10, at 11, at 12, at 13, at 14, at 15) refl
-
-pub round_by_halves : (j : ℕ) (m : List (List ℕ)) (a b c d v1 a2 b2 c2 d2 v3 v4 turns result : List ℕ)
-    → length a ≡ 4 → length b ≡ 4 → length c ≡ 4 → length d ≡ 4 → length a2 ≡ 4 → length b2 ≡ 4 → length c2 ≡ 4 → length d2 ≡ 4
-    → v1 ≡ half_columns (a ++ b ++ c ++ d) (quad j m 0 2 4 6) 16 12 → a2 ++ b2 ++ c2 ++ d2 ≡ half_columns v1 (quad j m 1 3 5 7) 8 7
-    → turns ≡ turned (a2 ++ b2 ++ c2 ++ d2) → v3 ≡ half_columns turns (quad j m 14 8 10 12) 16 12 → v4 ≡ half_columns v3 (quad j m 15 9 11 13) 8 7
-    → result ≡ turned_back v4 → result ≡ round (a ++ b ++ c ++ d) (lane j m)
-round_by_halves j m a b c d v1 a2 b2 c2 d2 v3 v4 turns result ha hb hc hd ha2 hb2 hc2 hd2 e1 e2 et e3 e4 e =
-    let x : List ℕ = quad j m 8 10 12 14 in
-    let y : List ℕ = quad j m 9 11 13 15 in
-    let first : a2 ++ b2 ++ c2 ++ d2 ≡ columns (a ++ b ++ c ++ d) (quad j m 0 2 4 6) (quad j m 1 3 5 7) =
-    e2 ∙ ap (λ (v : List ℕ). half_columns v (quad j m 1 3 5 7) 8 7) e1 ∙ columns_by_halves a b c d (quad j m 0 2 4 6) (quad j m 1 3 5 7) ha hb hc hd in
-    e ∙ ap turned_back (e4 ∙ ap (λ (v : List ℕ). half_columns v (quad j m 15 9 11 13) 8 7)
-    (e3 ∙ ap (λ (v : List ℕ). half_columns v (quad j m 14 8 10 12) 16 12) et))
-    ∙ diagonals_by_halves a2 b2 c2 d2 (quad j m 14 8 10 12) (quad j m 15 9 11 13) ha2 hb2 hc2 hd2
-    ∙ ap (λ (v : List ℕ). diagonals v x y) first ∙ round_in_step j m (a ++ b ++ c ++ d)
 
 -- ---- the ends of a compression
 

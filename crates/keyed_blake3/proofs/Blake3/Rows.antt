@@ -76,3 +76,11 @@ pub diagonals_by_halves : (a b c d x y : List ℕ) → length a ≡ 4 → length
     → turned_back (half_columns (half_columns (turned (a ++ b ++ c ++ d)) x 16 12) y 8 7) ≡ diagonals (a ++ b ++ c ++ d) (from_second x) (from_second y)
 unfolding diagonals half_columns mix half_mix
 diagonals_by_halves a b c d x y ha hb hc hd = rw (four a ha, four b hb, four c hc, four d hd) refl
+
+pub round_by_halves : (a b c d a1 b1 c1 d1 x y z w v1 turns v3 v4 result : List ℕ) → length a ≡ 4 → length b ≡ 4 → length c ≡ 4 → length d ≡ 4
+    → length a1 ≡ 4 → length b1 ≡ 4 → length c1 ≡ 4 → length d1 ≡ 4
+    → v1 ≡ half_columns (a ++ b ++ c ++ d) x 16 12 → a1 ++ b1 ++ c1 ++ d1 ≡ half_columns v1 y 8 7
+    → turns ≡ turned (a1 ++ b1 ++ c1 ++ d1) → v3 ≡ half_columns turns z 16 12 → v4 ≡ half_columns v3 w 8 7 → result ≡ turned_back v4
+    → result ≡ diagonals (columns (a ++ b ++ c ++ d) x y) (from_second z) (from_second w)
+round_by_halves a b c d a1 b1 c1 d1 x y z w v1 turns v3 v4 result ha hb hc hd ha1 hb1 hc1 hd1 e1 e2 et e3 e4 e =
+    rw (e, e4, e3, et, diagonals_by_halves a1 b1 c1 d1 z w ha1 hb1 hc1 hd1, e2, e1, columns_by_halves a b c d x y ha hb hc hd) refl

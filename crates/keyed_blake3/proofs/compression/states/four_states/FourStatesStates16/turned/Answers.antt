@@ -1,5 +1,5 @@
 use Rattle.std.proofs.Common.{length, ap}
-use Rattle.keyed_blake3.proofs.Blake3.FourRows.{turned-four}
+use Rattle.keyed_blake3.proofs.Blake3.SharedRows.{turned_rows}
 use Rattle.keyed_blake3.proofs.compression.states.four_states.FourStatesStates16.turned.Goals as goal
 
 pub invariant_of-result : goal.invariant_of-result
@@ -9,4 +9,4 @@ pub returns : goal.returns
 returns c = λ j h.
     let v = c.args.v.now in
     rw (c.lanes_of.ensures, c.lanes_of-2.ensures, c.lanes_of-3.ensures, c.vector.ensures, c.vector-2.ensures, c.vector-3.ensures)
-    (turned-four j v.a v.b v.c v.d h v.full.0 v.full.1 v.full.2 v.full.3)
+    (turned_rows 4 j v.a v.b v.c v.d h v.full.0 v.full.2 v.full.3)

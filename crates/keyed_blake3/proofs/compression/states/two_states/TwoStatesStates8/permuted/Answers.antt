@@ -1,5 +1,5 @@
 use Rattle.std.proofs.Common.{length, ap}
-use Rattle.keyed_blake3.proofs.Blake3.TwoRows.{permuted-two}
+use Rattle.keyed_blake3.proofs.Blake3.SharedRows.{permuted_quads, second_by_turns}
 use Rattle.keyed_blake3.proofs.compression.states.two_states.TwoStatesStates8.permuted.Goals as goal
 
 pub invariant_of-result : goal.invariant_of-result
@@ -9,4 +9,5 @@ pub returns : goal.returns
 returns c = λ j h.
     let m = c.args.m.now in
     rw (c.lanes_of.ensures, c.lanes_of-2.ensures, c.lanes_of-3.ensures, c.lanes_of-4.ensures, c.vector-x.ensures, c.vector-y.ensures, c.vector-z.ensures, c.vector-w.ensures)
-    (permuted-two j m.column_first m.column_second m.diagonal_first m.diagonal_second h m.full.0 m.full.1 m.full.2 m.full.3)
+    (permuted_quads 2 j m.column_first m.column_second m.diagonal_first m.diagonal_second _ h m.full.0 m.full.1 m.full.2 m.full.3
+    (second_by_turns 2 j m.column_first m.diagonal_first m.diagonal_second h m.full.0 m.full.2 m.full.3))
