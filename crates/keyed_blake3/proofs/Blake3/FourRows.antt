@@ -9,7 +9,14 @@ use Rattle.keyed_blake3.specs.Steps.Lanes.{chunk_at, lane}
 use Rattle.keyed_blake3.specs.Steps.Rows.{quad_at}
 use Rattle.keyed_blake3.proofs.Blake3.Blocks.{word_at_place}
 use Rattle.keyed_blake3.proofs.Blake3.Rows.{eight, four, sixteen}
-use Rattle.keyed_blake3.proofs.Blake3.SharedRows.{pick}
+
+-- four states
+pub each_of_four : (P : ℕ → Type 0) → P 0 → P 1 → P 2 → P 3 → (j : ℕ) → j < 4 → P j
+each_of_four P x y z w zero h = x
+each_of_four P x y z w (suc zero) h = y
+each_of_four P x y z w (suc (suc zero)) h = z
+each_of_four P x y z w (suc (suc (suc zero))) h = w
+each_of_four P x y z w (suc (suc (suc (suc j)))) h = absurd (omega arith)
 
 -- four quads side by side
 pub beside-four : (j : ℕ) (f : ℕ → List ℕ) (x : List ℕ) → j < 4 → x ≡ f 0 ++ f 1 ++ f 2 ++ f 3 → ((i : ℕ) → length (f i) ≡ 4) → quad_at j x ≡ f j
@@ -18,47 +25,6 @@ beside-four (suc zero) f x h is size = rw (is, four (f 0) (size 0), four (f 1) (
 beside-four (suc (suc zero)) f x h is size = rw (is, four (f 0) (size 0), four (f 1) (size 1), four (f 2) (size 2)) refl
 beside-four (suc (suc (suc zero))) f x h is size = rw (is, four (f 0) (size 0), four (f 1) (size 1), four (f 2) (size 2), four (f 3) (size 3)) refl
 beside-four (suc (suc (suc (suc j)))) f x h is size = absurd (omega arith)
-
--- the words of lanes at even places, and of those at odd places
-pub even-four : (j : ℕ) (a b c d : List ℕ) → j < 4 → length a ≡ 8 → length b ≡ 8 → length c ≡ 8 → length d ≡ 8
-    → quad_at j (pick (pick a b (0 ∷ 8 ∷ 2 ∷ 10 ∷ 4 ∷ 12 ∷ 6 ∷ 14 ∷ 1 ∷ 9 ∷ 3 ∷ 11 ∷ 5 ∷ 13 ∷ 7 ∷ 15 ∷ [])) (pick c d (0 ∷ 8 ∷ 2 ∷ 10 ∷ 4 ∷ 12 ∷ 6 ∷ 14 ∷ 1 ∷ 9 ∷ 3 ∷ 11 ∷ 5 ∷ 13 ∷ 7 ∷ 15 ∷ [])) (0 ∷ 1 ∷ 16 ∷ 17 ∷ 2 ∷ 3 ∷ 18 ∷ 19 ∷ 4 ∷ 5 ∷ 20 ∷ 21 ∷ 6 ∷ 7 ∷ 22 ∷ 23 ∷ []))
-    ≡ get_or a (2 * j) 0 ∷ get_or b (2 * j) 0 ∷ get_or c (2 * j) 0 ∷ get_or d (2 * j) 0 ∷ []
-even-four zero a b c d h ha hb hc hd = rw (eight a ha, eight b hb, eight c hc, eight d hd) refl
-even-four (suc zero) a b c d h ha hb hc hd = rw (eight a ha, eight b hb, eight c hc, eight d hd) refl
-even-four (suc (suc zero)) a b c d h ha hb hc hd = rw (eight a ha, eight b hb, eight c hc, eight d hd) refl
-even-four (suc (suc (suc zero))) a b c d h ha hb hc hd = rw (eight a ha, eight b hb, eight c hc, eight d hd) refl
-even-four (suc (suc (suc (suc j)))) a b c d h ha hb hc hd = absurd (omega arith)
-
-pub odd-four : (j : ℕ) (a b c d : List ℕ) → j < 4 → length a ≡ 8 → length b ≡ 8 → length c ≡ 8 → length d ≡ 8
-    → quad_at j (pick (pick a b (0 ∷ 8 ∷ 2 ∷ 10 ∷ 4 ∷ 12 ∷ 6 ∷ 14 ∷ 1 ∷ 9 ∷ 3 ∷ 11 ∷ 5 ∷ 13 ∷ 7 ∷ 15 ∷ [])) (pick c d (0 ∷ 8 ∷ 2 ∷ 10 ∷ 4 ∷ 12 ∷ 6 ∷ 14 ∷ 1 ∷ 9 ∷ 3 ∷ 11 ∷ 5 ∷ 13 ∷ 7 ∷ 15 ∷ [])) (8 ∷ 9 ∷ 24 ∷ 25 ∷ 10 ∷ 11 ∷ 26 ∷ 27 ∷ 12 ∷ 13 ∷ 28 ∷ 29 ∷ 14 ∷ 15 ∷ 30 ∷ 31 ∷ []))
-    ≡ get_or a (2 * j + 1) 0 ∷ get_or b (2 * j + 1) 0 ∷ get_or c (2 * j + 1) 0 ∷ get_or d (2 * j + 1) 0 ∷ []
-odd-four zero a b c d h ha hb hc hd = rw (eight a ha, eight b hb, eight c hc, eight d hd) refl
-odd-four (suc zero) a b c d h ha hb hc hd = rw (eight a ha, eight b hb, eight c hc, eight d hd) refl
-odd-four (suc (suc zero)) a b c d h ha hb hc hd = rw (eight a ha, eight b hb, eight c hc, eight d hd) refl
-odd-four (suc (suc (suc zero))) a b c d h ha hb hc hd = rw (eight a ha, eight b hb, eight c hc, eight d hd) refl
-odd-four (suc (suc (suc (suc j)))) a b c d h ha hb hc hd = absurd (omega arith)
-
--- four of vectors' first eight lanes, which are read of a slice of these
-pub first_eight : (i : ℕ) (a b c d : List ℕ) → i < 8
-    → get_or (take 8 (take 8 a)) i 0 ∷ get_or (take 8 (take 8 b)) i 0 ∷ get_or (take 8 (take 8 c)) i 0 ∷ get_or (take 8 (take 8 d)) i 0 ∷ []
-    ≡ get_or a i 0 ∷ get_or b i 0 ∷ get_or c i 0 ∷ get_or d i 0 ∷ []
-first_eight i a b c d h =
-    let at : (x : List ℕ) → get_or (take 8 (take 8 x)) i 0 ≡ get_or x i 0 = λ x. get_or-take 8 (take 8 x) i 0 h ∙ get_or-take 8 x i 0 h in
-    rw (at a, at b, at c, at d) refl
-
--- a table of four words in a row, turned
-abbrev pub turned_table : List ℕ → List ℕ
-turned_table x = pick x x (0 ∷ 4 ∷ 8 ∷ 12 ∷ 1 ∷ 5 ∷ 9 ∷ 13 ∷ 2 ∷ 6 ∷ 10 ∷ 14 ∷ 3 ∷ 7 ∷ 11 ∷ 15 ∷ [])
-
-pub lanes-four : (j : ℕ) (a b : List ℕ) (v : List (List ℕ)) → j < 4 → length a ≡ 16 → length b ≡ 16
-    → v ≡ quad_at 0 (turned_table a) ∷ quad_at 1 (turned_table a) ∷ quad_at 2 (turned_table a) ∷ quad_at 3 (turned_table a)
-    ∷ quad_at 0 (turned_table b) ∷ quad_at 1 (turned_table b) ∷ quad_at 2 (turned_table b) ∷ quad_at 3 (turned_table b) ∷ []
-    → lane j v ≡ quad_at j a ++ quad_at j b
-lanes-four zero a b v h ha hb is = rw (is, sixteen a ha, sixteen b hb) refl
-lanes-four (suc zero) a b v h ha hb is = rw (is, sixteen a ha, sixteen b hb) refl
-lanes-four (suc (suc zero)) a b v h ha hb is = rw (is, sixteen a ha, sixteen b hb) refl
-lanes-four (suc (suc (suc zero))) a b v h ha hb is = rw (is, sixteen a ha, sixteen b hb) refl
-lanes-four (suc (suc (suc (suc j)))) a b v h ha hb is = absurd (omega arith)
 
 -- ---- blocks read by quads
 

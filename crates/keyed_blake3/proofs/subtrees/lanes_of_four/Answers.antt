@@ -1,9 +1,5 @@
-use Rattle.keyed_blake3.proofs.Blake3.InStep.{eight_full_of}
 use Rattle.keyed_blake3.proofs.Blake3.Lanes.{lane_read}
 use Rattle.keyed_blake3.proofs.subtrees.lanes_of_four.Goals as goal
-
-pub returns-clause-full : goal.returns-clause-full
-returns-clause-full g c = eight_full_of _ _ _ _ _ _ _ _ c.of_four.ensures.full c.of_four-2.ensures.full c.of_four-3.ensures.full c.of_four-4.ensures.full c.of_four-5.ensures.full c.of_four-6.ensures.full c.of_four-7.ensures.full c.of_four-8.ensures.full
 
 pub returns-clause-lanes : goal.returns-clause-lanes
 returns-clause-lanes g c = λ j h.

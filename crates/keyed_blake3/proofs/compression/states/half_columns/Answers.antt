@@ -6,19 +6,6 @@ use Rattle.keyed_blake3.proofs.Blake3.InStep.{half_columns_by_steps}
 use Rattle.keyed_blake3.proofs.Blake3.SharedRows.{length-both, length-each, quads-both, quads-each}
 use Rattle.keyed_blake3.proofs.compression.states.half_columns.Goals as goal
 
-pub invariant_of-result : goal.invariant_of-result
-invariant_of-result g c =
-    let v = c.args.v.now in
-    let n : ℕ = g.row.N in
-    let la0 : length c.sum.result ≡ n = length-both add32 v.a v.b _ v.full.0 v.full.1 c.sum.ensures in
-    let la : length c.sum-a.result ≡ n = length-both add32 _ c.args.x.now _ la0 c.requires.full c.sum-a.ensures in
-    let lx : length c.xor.result ≡ n = length-both bit_xor v.d _ _ v.full.3 la c.xor.ensures in
-    let ld : length c.rotated_row-d.result ≡ n = length-each (λ (y : ℕ). rotate_right w32 y c.args.r) _ _ lx c.rotated_row-d.ensures in
-    let lc : length c.sum-c.result ≡ n = length-both add32 v.c _ _ v.full.2 ld c.sum-c.ensures in
-    let ly : length c.xor-2.result ≡ n = length-both bit_xor v.b _ _ v.full.1 lc c.xor-2.ensures in
-    let lb : length c.rotated_row-b.result ≡ n = length-each (λ (y : ℕ). rotate_right w32 y c.args.s) _ _ ly c.rotated_row-b.ensures in
-    record { full = (la, lb, lc, ld) }
-
 pub returns : goal.returns
 returns g c = λ j h.
     let v = c.args.v.now in

@@ -1,12 +1,22 @@
-use Rattle.std.proofs.Common.{length, ap}
-use Rattle.keyed_blake3.proofs.Blake3.SharedRows.{quads_of_rows}
+use Rattle.std.proofs.Common.{refl}
+use Rattle.keyed_blake3.proofs.Blake3.FourRows.{each_of_four}
+use Rattle.keyed_blake3.proofs.Blake3.Rows.{sixteen}
 use Rattle.keyed_blake3.proofs.compression.states.four_states.FourStatesStates16.quads.Goals as goal
 
-pub invariant_of-result : goal.invariant_of-result
-invariant_of-result c = record { full = (ap length c.lanes_of.ensures, ap length c.lanes_of-2.ensures, ap length c.lanes_of-3.ensures, ap length c.lanes_of-4.ensures) }
-
 pub returns : goal.returns
-returns c = λ j h.
+returns c =
     let m = c.args.m.now in
-    rw (c.lanes_of.ensures, c.lanes_of-2.ensures, c.lanes_of-3.ensures, c.lanes_of-4.ensures, c.vector-p.ensures, c.vector-q.ensures, c.vector-r.ensures, c.vector-s.ensures)
-    (quads_of_rows 4 j m.a m.b m.c m.d h m.full.0 m.full.1 m.full.2 m.full.3)
+    rw (
+      c.lanes_of.ensures,
+      c.lanes_of-2.ensures,
+      c.lanes_of-3.ensures,
+      c.lanes_of-4.ensures,
+      c.vector-p.ensures,
+      c.vector-q.ensures,
+      c.vector-r.ensures,
+      c.vector-s.ensures,
+      sixteen m.a m.full.0,
+      sixteen m.b m.full.1,
+      sixteen m.c m.full.2,
+      sixteen m.d m.full.3,
+    ) (each_of_four _ refl refl refl refl)
