@@ -1,14 +1,14 @@
 -- Four chaining values and four blocks, in the rows that four states share.
-use Rattle.std.proofs.Common.{◌≡◌, ℕ, zero, suc, ◌+◌, ◌*◌, ◌<◌, ◌≤◌, List, [], ◌∷◌, ◌++◌, drop, take, length, map, get_or, refl, sym, ap, ◌∙◌, arith}
-use Rattle.std.proofs.lemmas.List.{drop-drop, get_or-take}
+use Rattle.std.proofs.Common.{◌≡◌, ℕ, zero, suc, ◌+◌, ◌*◌, ◌<◌, ◌≤◌, List, ◌++◌, drop, length, map, refl, sym, ap, ◌∙◌, arith}
+use Rattle.std.proofs.lemmas.List.{drop-drop}
 use Rattle.std.proofs.lemmas.List.FromFn.{fill_by_all, get_or-map-range_with_len}
 use Rattle.std.specs.Int.{from_le_bytes, w32}
 use Rattle.std.specs.List.{range_with_len}
 use Rattle.keyed_blake3.specs.Blake3.{block, words_at}
-use Rattle.keyed_blake3.specs.Steps.Lanes.{chunk_at, lane}
+use Rattle.keyed_blake3.specs.Steps.Lanes.{chunk_at}
 use Rattle.keyed_blake3.specs.Steps.Rows.{quad_at}
 use Rattle.keyed_blake3.proofs.Blake3.Blocks.{word_at_place}
-use Rattle.keyed_blake3.proofs.Blake3.Rows.{eight, four, sixteen}
+use Rattle.keyed_blake3.proofs.Blake3.Rows.{four}
 
 -- four states
 pub each_of_four : (P : ℕ → Type 0) → P 0 → P 1 → P 2 → P 3 → (j : ℕ) → j < 4 → P j

@@ -1,13 +1,8 @@
 -- Rows that states share.
-use Rattle.std.proofs.Common.{◌≡◌, ℕ, zero, suc, ◌+◌, ◌*◌, ◌/◌, ◌%◌, ◌^◌, ◌<◌, ◌≤◌, List, [], ◌∷◌, ◌++◌, length, map, get_or, refl, sym, ap, ◌∙◌, arith, length-append}
-use Rattle.std.proofs.Math.Nat.{mul-le-mul_right}
-use Rattle.std.proofs.lemmas.List.{get_or_append_left, get_or-append-add, get_or-map as get_or-map-at, get_or_past, length-map}
-use Rattle.std.proofs.lemmas.List.FromFn.{length-map-range_with_len}
-use Rattle.std.specs.List.{range_with_len}
-use Rattle.keyed_blake3.specs.Blake3.{first_state, initialization_vector, permuted}
-use Rattle.keyed_blake3.specs.Steps.Rows.{from_second, quad_at, turned, turned_back, zipped}
-use Rattle.keyed_blake3.proofs.Blake3.Lanes.{both_at, both_full, picked_at}
-use Rattle.keyed_blake3.proofs.Blake3.Rows.{four}
+use Rattle.std.proofs.Common.{◌≡◌, ℕ, ◌+◌, ◌*◌, ◌/◌, ◌<◌, List, ◌++◌, length, map, get_or, refl, ap, ◌∙◌, arith}
+use Rattle.std.proofs.lemmas.List.{get_or-map as get_or-map-at, length-map}
+use Rattle.keyed_blake3.specs.Steps.Rows.{quad_at}
+use Rattle.keyed_blake3.proofs.Blake3.Lanes.{both_at, both_full}
 use lib.Lanes.{zip2}
 
 -- the lanes of one vector, or of two, in a quad
