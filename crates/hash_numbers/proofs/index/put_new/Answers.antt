@@ -2,7 +2,7 @@ use Rattle.std.proofs.Common.{◌++◌, ◌∷◌, [], refl, sym, take, List, ap
 use Rattle.std.specs.Prelude.{Ok, OnErr, Result, Err}
 use Rattle.hash_numbers.specs.Index.{Entry, Hash}
 use Rattle.hash_numbers.specs.Steps.Removing.{IsWithout}
-use Rattle.hash_numbers.proofs.Index.{PutSoFar, puts-none, puts-old, puts-new, puts-next, back-listed}
+use Rattle.hash_numbers.proofs.Numbers.{PutSoFar, puts-none, puts-old, puts-new, puts-next, back-listed}
 use Rattle.hash_numbers.proofs.index.put_new.Goals as goal
 use Rattle.hash_numbers.proofs.index.put_new.Goals.{then-not-contains_key+in_ok-push+in_ok-insert, else-not-contains_key}
 
@@ -43,10 +43,10 @@ pairs-preserved g c =
           let more = puts-next first w.insert.new.self (added ++ next.0 ∷ []) pairs i next c.pairs-test.true c.pairs-item.is put in
           let items = ap (λ (listed : Vec Hash g.row.A.Denot). listed.items) w.added-is ∙ w.in_ok-push.ensures.items in
           let listed = subst (λ (l : List Hash). PutSoFar first w.insert.new.self l (take (i + 1) pairs)) (sym items) more in
-          subst (λ (map : List Entry). PutSoFar first map c.if-not-contains_key.new.items (take (i + 1) pairs)) (sym w.map-is) listed
+          subst (λ (map : List Entry). PutSoFar first map c.if-not-contains_key.added.items (take (i + 1) pairs)) (sym w.map-is) listed
       | else-not-contains_key w ↦
           let put = puts-old first now added (take i pairs) next c.pairs.invariant (sym c.contains_key.ensures ∙ w.if-not-contains_key.false) in
           let more = puts-next first now added pairs i next c.pairs-test.true c.pairs-item.is put in
           let listed = subst (λ (l : List Hash). PutSoFar first now l (take (i + 1) pairs)) (sym (ap (λ (listed : Vec Hash g.row.A.Denot). listed.items) w.added-is)) more in
-          subst (λ (map : List Entry). PutSoFar first map c.if-not-contains_key.new.items (take (i + 1) pairs)) (sym w.map-is) listed
+          subst (λ (map : List Entry). PutSoFar first map c.if-not-contains_key.added.items (take (i + 1) pairs)) (sym w.map-is) listed
     ]

@@ -1,5 +1,5 @@
 use Rattle.std.proofs.Common.{take}
-use Rattle.hash_numbers.proofs.Index.{PutSoFar}
+use Rattle.hash_numbers.proofs.Numbers.{PutSoFar}
 use Rattle.hash_numbers.proofs.index.put_new.Given as goal
 
 abbrev pub invariant-pairs : goal.invariant-pairs

@@ -1,4 +1,4 @@
-use Rattle.hash_numbers.proofs.Index.{removed-next}
+use Rattle.hash_numbers.proofs.Numbers.{removed-next}
 use Rattle.hash_numbers.proofs.index.remove_all.Goals as goal
 
 pub hashes-preserved : goal.hashes-preserved
