@@ -50,14 +50,14 @@ fn insert_pairs(
     kept: &mut HashIndex,
     hashes: &[Hash],
     numbers: &[u64],
-    count: &mut usize,
+    new_hashes: &mut usize,
 ) -> u32
-    ensures inserts { result ≡ DONE → Inserts kept.old (pairs_of hashes.now numbers.now) kept.new count.new }
+    ensures inserts { result ≡ DONE → Inserts kept.old (pairs_of hashes.now numbers.now) kept.new new_hashes.new }
     ensures arguments { (result ≡ ARGUMENTS) ↔ (length numbers.now ≢ length hashes.now) }
     ensures statuses { (result ≡ DONE) ⊎ ((result ≡ ARGUMENTS) ⊎ (result ≡ MEMORY)) }
     ensures refused { result ≡ MEMORY → AreSame kept.old kept.new }
     ensures unchanged { result ≡ ARGUMENTS → kept.new ≡ kept.old }
-    ensures no_count { result ≢ DONE → count.new ≡ count.old }
+    ensures not_counted { result ≢ DONE → new_hashes.new ≡ new_hashes.old }
 {
     if numbers.len() != hashes.len() {
         return ARGUMENTS;
@@ -67,7 +67,7 @@ fn insert_pairs(
     };
     match kept.insert(alloc, &pairs) {
         Ok(new) => {
-            *count = new;
+            *new_hashes = new;
             DONE
         }
         Err(_) => MEMORY,
@@ -75,7 +75,7 @@ fn insert_pairs(
 }
 
 /// Gives each hash of a list the number beside it in `numbers`, unless the hash has one already: the number that came
-/// first stays, also among those of one call. `count` gets how many hashes had no number before, each counted once.
+/// first stays, also among those of one call. `new_hashes` gets how many hashes had no number before, each counted once.
 ///
 /// - `DONE`: each hash has a number.
 /// - `EMPTY_HANDLE`: if and only if the handle is empty.
@@ -89,22 +89,22 @@ pub extern "C" fn yurewha_hash_index_insert(
     index: &mut HashIndexHandle,
     hashes: &[Hash],
     numbers: &[u64],
-    count: &mut usize,
+    new_hashes: &mut usize,
 ) -> u32
     ensures inserts { result ≡ DONE → BothHold index.old.value index.new.value (λ before after.
-        Inserts before (pairs_of hashes.now numbers.now) after count.new) }
+        Inserts before (pairs_of hashes.now numbers.now) after new_hashes.new) }
     ensures arguments { IfSome index.old.value (λ before. (result ≡ ARGUMENTS) ↔ (length numbers.now ≢ length hashes.now)) }
     ensures refused { result ≡ MEMORY → BothHold index.old.value index.new.value AreSame }
     ensures unchanged { result ≡ ARGUMENTS → index.new.value ≡ index.old.value }
     ensures empty { (result ≡ EMPTY_HANDLE) ↔ (index.old.value ≡ None) }
     ensures still_empty { result ≡ EMPTY_HANDLE → index.new.value ≡ None }
     ensures statuses { (result ≡ DONE) ⊎ ((result ≡ EMPTY_HANDLE) ⊎ ((result ≡ ARGUMENTS) ⊎ (result ≡ MEMORY))) }
-    ensures no_count { result ≢ DONE → count.new ≡ count.old }
+    ensures not_counted { result ≢ DONE → new_hashes.new ≡ new_hashes.old }
 {
     let Some(mut kept) = index.take(alloc) else {
         return EMPTY_HANDLE;
     };
-    let status = insert_pairs(alloc, &mut kept, hashes, numbers, count);
+    let status = insert_pairs(alloc, &mut kept, hashes, numbers, new_hashes);
     index.put(kept);
     status
 }
