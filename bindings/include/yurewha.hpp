@@ -679,7 +679,7 @@ public:
         return detail::written_lists<range_proof>(64, 1024,
                                                   [&](auto... rooms) { return yurewha_hash_tree_proof(&copy, first, end, rooms...); });
     }
-    // How many chunks this file and another one have in common at the front, and at the end, there at most so many.
+    // How many chunks this file and another one have in common at the front, and at the end, where `most` is the most that are counted.
     [[nodiscard]] std::size_t common_prefix(const hash_tree &other) const
     {
         yurewha_hash_tree second = other.copied();
