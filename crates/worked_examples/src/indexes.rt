@@ -32,7 +32,11 @@ fn answers(alloc: Global, calls: &str) -> Result<String> {
 fn called(alloc: Global, index: &mut HashIndex, call: &str) -> Result<String> {
     let (name, argument) = call.split_once(' ').unwrap_or((call, ""));
     match name {
-        "insert" => Ok(index.insert(alloc, &pairs(alloc, argument)?)?.to_string(alloc)?),
+        "insert" => Ok(
+            index
+                .insert(alloc, &pairs(alloc, argument)?)?
+                .to_string(alloc)?,
+        ),
         "get" => Ok(found(alloc, index.get(&hash(argument)?))?),
         "len" => Ok(index.len().to_string(alloc)?),
         _ => bail!("no such call"),

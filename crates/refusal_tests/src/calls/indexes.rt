@@ -18,7 +18,9 @@ fn pairs(rt: &impl Abort, memory: Global, count: u64, more: u64) -> Vec<(MerkleH
     let mut pairs = Vec::new(memory);
     for seed in 0..count {
         let hash = MerkleHash::random_from_seed(seed);
-        pairs.push((hash, seed.saturating_add(more))).expect(rt, "memory");
+        pairs
+            .push((hash, seed.saturating_add(more)))
+            .expect(rt, "memory");
     }
     pairs
 }
@@ -26,7 +28,11 @@ fn pairs(rt: &impl Abort, memory: Global, count: u64, more: u64) -> Vec<(MerkleH
 // Returns whether an index has exactly the hashes of the seeds below a count, and not that of the next seed.
 fn has_hashes(index: &Index<'_>, count: u64) -> bool {
     for seed in 0..count {
-        let number = if seed < FEW { seed } else { seed.saturating_add(1000) };
+        let number = if seed < FEW {
+            seed
+        } else {
+            seed.saturating_add(1000)
+        };
         if index.get(&MerkleHash::random_from_seed(seed)) != Some(number) {
             return false;
         }
@@ -37,7 +43,9 @@ fn has_hashes(index: &Index<'_>, count: u64) -> bool {
 // Returns an index of a few hashes.
 fn few<'a>(rt: &impl Abort, alloc: &'a Refusing, memory: Global) -> Index<'a> {
     let mut index = HashIndex::new(alloc);
-    index.insert(alloc, &pairs(rt, memory, FEW, 0)).expect(rt, "memory");
+    index
+        .insert(alloc, &pairs(rt, memory, FEW, 0))
+        .expect(rt, "memory");
     index
 }
 
