@@ -78,7 +78,7 @@ puts-old first now added done next so_far has = record {
   numbers = λ hash.
       so_far.numbers hash
       ∙ or-there (hash_eq hash next.0) next.1 (number_of (first ++ done) hash)
-        (λ same. ap (λ (h : Hash). is_some (number_of (first ++ done) h)) (same_text hash next.0 (sym same)) ∙ ap is_some (sym (so_far.numbers next.0)) ∙ has)
+      (λ same. ap (λ (h : Hash). is_some (number_of (first ++ done) h)) (same_text hash next.0 (sym same)) ∙ ap is_some (sym (so_far.numbers next.0)) ∙ has)
       ∙ sym (number_of-push first done next hash);
   back = so_far.back;
 }
@@ -121,7 +121,7 @@ puts-new first now added done next after so_far lacks sets = record {
       ∙ ap (λ b. cond b (Some next.1) (number_of now hash)) (nat_list_eq_equiv.symm next.0 hash)
       ∙ ap (cond (hash_eq hash next.0) (Some next.1)) (so_far.numbers hash)
       ∙ or-put (hash_eq hash next.0) next.1 (number_of (first ++ done) hash)
-        (λ same. ap (λ (h : Hash). is_some (number_of (first ++ done) h)) (same_text hash next.0 (sym same)) ∙ ap is_some (sym (so_far.numbers next.0)) ∙ lacks)
+      (λ same. ap (λ (h : Hash). is_some (number_of (first ++ done) h)) (same_text hash next.0 (sym same)) ∙ ap is_some (sym (so_far.numbers next.0)) ∙ lacks)
       ∙ sym (number_of-push first done next hash);
   back = back-listed first now after added next.0 so_far.back lacks
       (λ hash other. sets hash ∙ ap (λ b. cond b (Some next.1) (number_of now hash)) (nat_list_eq_equiv.symm next.0 hash ∙ other));
@@ -149,7 +149,7 @@ removed-next first now after hashes i next inside is before sets hash =
     ∙ ap (cond (hash_eq hash next) None) (before hash)
     ∙ cond-cond (is_among (take i hashes) hash) (hash_eq hash next) (number_of first hash)
     ∙ ap (λ b. cond b None (number_of first hash))
-      (sym (list_any_more (hash_eq hash) hashes i next inside ∙ ap (λ (one : Hash). is_among (take i hashes) hash || hash_eq hash one) (sym is)))
+    (sym (list_any_more (hash_eq hash) hashes i next inside ∙ ap (λ (one : Hash). is_among (take i hashes) hash || hash_eq hash one) (sym is)))
 
 -- how many entries there are, where the numbers are the same
 pub same_entries : (first second : List Entry) → IsIndex first → IsIndex second → SameNumbers first second → AreSame first second
@@ -157,7 +157,7 @@ same_entries first second once once' same = record {
   numbers = same;
   count = sym (length-keys_of first)
       ∙ length-from_same_keys nat_list_eq_equiv (keys_of first) (keys_of second) once once'
-        (λ hash. sym (is_some-lookup (hash_eq hash) first) ∙ ap is_some (same hash) ∙ is_some-lookup (hash_eq hash) second)
+      (λ hash. sym (is_some-lookup (hash_eq hash) first) ∙ ap is_some (same hash) ∙ is_some-lookup (hash_eq hash) second)
       ∙ length-keys_of second;
 }
 
@@ -169,6 +169,6 @@ is_some-or (Some number) second has = refl
 pub grown : (old given new : List Entry) → IsIndex old → SameNumbers new (old ++ given) → length old ≤ length new
 grown old given new once same =
     let keys : length (keys_of old) ≤ length (keys_of new) = length-le_from_is_member nat_list_eq_equiv (keys_of old) (keys_of new) once
-      (λ hash has. sym (is_some-lookup (hash_eq hash) new) ∙ ap is_some (same hash ∙ lookup-append (hash_eq hash) old given)
-      ∙ is_some-or (number_of old hash) (number_of given hash) (is_some-lookup (hash_eq hash) old ∙ has)) in
+    (λ hash has. sym (is_some-lookup (hash_eq hash) new) ∙ ap is_some (same hash ∙ lookup-append (hash_eq hash) old given)
+    ∙ is_some-or (number_of old hash) (number_of given hash) (is_some-lookup (hash_eq hash) old ∙ has)) in
     subst (λ n. n ≤ length new) (length-keys_of old) (subst (λ n. length (keys_of old) ≤ n) (length-keys_of new) keys)

@@ -31,9 +31,9 @@ same_at first second more k a b fewer in_first in_second is_a is_b same =
     let k_first : k < length first = omega arith in
     let k_second : k < length second = omega arith in
     let lists : a ∷ take_last k first ≡ b ∷ take_last k second =
-      sym (last-more first k a k_first is_a) ∙ sym (last-fewer first more k fewer in_first)
-      ∙ ap (λ (nodes : List Node). drop (more - (k + 1)) nodes) same
-      ∙ last-fewer second more k fewer in_second ∙ last-more second k b k_second is_b in
+    sym (last-more first k a k_first is_a) ∙ sym (last-fewer first more k fewer in_first)
+    ∙ ap (λ (nodes : List Node). drop (more - (k + 1)) nodes) same
+    ∙ last-fewer second more k fewer in_second ∙ last-more second k b k_second is_b in
     cc
 
 pub returns-then-not-are_same : goal.returns-then-not-are_same
@@ -47,7 +47,7 @@ returns-then-not-are_same c =
       same = c.nodes.invariant;
       longest = λ more above at_most in_first in_second same.
           let equal = same_at first second more c.nodes.k c.index-first-first.result c.index-second-second.result above in_first in_second
-            c.index-first-first.is c.index-second-second.is same in
+          c.index-first-first.is c.index-second-second.is same in
           let yes : c.are_same.result ≡ true = c.are_same.ensures.1 equal in
           absurd (cc);
     }

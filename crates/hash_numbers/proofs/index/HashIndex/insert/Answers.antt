@@ -7,13 +7,13 @@ use Rattle.hash_numbers.proofs.index.HashIndex.insert.Goals as goal
 pub overflow_sub-result : goal.overflow_sub-result
 overflow_sub-result g c =
     let up : length c.self.inside.map ≤ length c.put_new.new.map
-      = grown c.self.inside.map c.args.pairs.now c.put_new.new.map c.len-before.ensures.map c.in-Ok.ensures.numbers in
+    = grown c.self.inside.map c.args.pairs.now c.put_new.new.map c.len-before.ensures.map c.in-Ok.ensures.numbers in
     omega (arith, c.len-before.ensures.entries, c.len.ensures.entries)
 
 pub returns-in-Ok-clause-inserts : goal.returns-in-Ok-clause-inserts
 returns-in-Ok-clause-inserts g c =
     let up : length c.self.inside.map ≤ length c.put_new.new.map
-      = grown c.self.inside.map c.args.pairs.now c.put_new.new.map c.len-before.ensures.map c.in-Ok.ensures.numbers in
+    = grown c.self.inside.map c.args.pairs.now c.put_new.new.map c.len-before.ensures.map c.in-Ok.ensures.numbers in
     subst (λ (old : List Entry). Inserts old c.args.pairs.now c.put_new.new.map (c.len.result - c.len-before.result)) c.self.view_is (record {
       numbers = c.in-Ok.ensures.numbers;
       counted = omega (arith, c.len-before.ensures.entries, c.len.ensures.entries);
