@@ -77,7 +77,7 @@ def check_hash_of(library: Library, name: str, data: Sequence[Word], shifts: Tup
 
 def lanes_for(chunks: int, most: int) -> Set[int]:
     """The numbers of lanes in which some chunks may be hashed: the fewest that hold them, and at most `most`. If there could be more
-    lanes than four, two chunks go as a pair, and three or four as two pairs."""
+    lanes than four, two chunks go as a pair, and three or four at once."""
     if chunks <= (2 if most == 4 else 4):
         return set()
     return {next(lanes for lanes in WIDTHS if lanes >= min(chunks, most))}

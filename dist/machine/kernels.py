@@ -21,8 +21,8 @@ from words import Value, Word, add_64, forget, high, low, symbol, unknown
 RESULT, FIRST, SECOND, THIRD, FOURTH, CHUNKS = 0x20000040, 0x21000040, 0x22000040, 0x23000040, 0x25000040, 0x30000004
 #: Where vectors are that are passed by their places.
 VECTORS = 0x24000040
-#: The functions of two pairs, of blocks and of chunks.
-TWO_PAIRS, FOUR_CHUNKS = "compression::two::compress_two_pairs_from", "two_chunks::four_chunk_values"
+#: The function of four chunks at once, and that of the parents of eight subtrees.
+FOUR_CHUNKS, FOUR_PARENTS = "four_chunks::four_chunk_values", "subtrees::four_parent_values"
 #: How many words a vector has in which a level passes chaining values: those of one block, and of two.
 VALUE_VECTORS = {"x86-64": (4, 4), "x86-64-v2": (4, 4), "x86-64-v3": (4, 8), "x86-64-v4": (4, 8), "aarch64": (4, 4)}
 
@@ -111,25 +111,6 @@ def check_compress_two(library: Library) -> Machine:
     return kernel.must_give(wanted, "two blocks")
 
 
-def check_two_pairs(library: Library) -> Machine:
-    """Two pairs of blocks, each block with a counter, a length and flags of its own."""
-    forget()
-    values = [symbols(f"h{k}", 8) for k in range(4)]
-    blocks = [(symbols(f"m{k}", 16), counter_of(f"counter{k}"), symbol(f"length{k}"), symbol(f"flags{k}")) for k in range(4)]
-    wanted = Wanted(two_pairs, values, blocks)
-    kernel = Kernel(library, TWO_PAIRS, [unknown() for _ in range(32)])
-    for pair in (values[:2], values[2:]):
-        kernel.give_vectors(beside(*pair), 2)
-    kernel.give_vectors([word for _, counter, length, flags in blocks for word in (low(counter), high(counter), length, flags)], 2)
-    for place, (words, *_) in zip((FIRST, SECOND, THIRD, FOURTH), blocks):
-        kernel.give_at(place, words)
-    return kernel.must_give(wanted, "two pairs of blocks")
-
-
-def two_pairs(values: Sequence[Sequence[Word]], blocks: Sequence[Tuple[Sequence[Word], Value, Word, Word]]) -> List[Word]:
-    return [*two_blocks(values[:2], blocks[:2]), *two_blocks(values[2:], blocks[2:])]
-
-
 def two_blocks(values: Sequence[Sequence[Word]], blocks: Sequence[Tuple[Sequence[Word], Value, Word, Word]]) -> List[Word]:
     first, second = (compress(h, *block) for h, block in zip(values, blocks))
     return beside(first, second)
@@ -178,13 +159,13 @@ def block_of_each(
     return side_by_side(compress(*lane) for lane in zip(h, blocks, counters, lengths, flags))
 
 
-def check_chunk_values(library: Library, places: Sequence[int]) -> Machine:
-    """The chunks at some places, the first of which has any number."""
+def check_chunk_values(library: Library, name: str, places: Sequence[int]) -> Machine:
+    """The chunks at some places, the first of which has any number: in as many lanes, or four at once."""
     forget()
     key, first = symbols("key", 8), counter_of("first")
     chunks = [symbols(f"chunk {j}", 256) for j in range(len(places))]
     wanted = Wanted(chunk_of_each, key, first, places, chunks)
-    kernel = Kernel(library, of_width("chunks::chunk_values", len(places)), [unknown() for _ in range(8 * len(places))])
+    kernel = Kernel(library, name, [unknown() for _ in range(8 * len(places))])
     for place, chunk in zip(places, chunks):
         kernel.memory.add_words(CHUNKS + 1024 * place, chunk)
     kernel.give_at(FIRST, key)
@@ -224,24 +205,15 @@ def parent_of_each(key: Sequence[Word], left: Sequence[Sequence[Word]], right: S
     return side_by_side(parent_value(key, *pair, 0) for pair in zip(left, right))
 
 
-def check_four_chunks(library: Library, places: Sequence[int]) -> Machine:
-    """Four chunks at some places, which go as two pairs."""
+def check_four_parents(library: Library, lanes: int) -> Machine:
+    """The parents of the first eight subtrees of some lanes."""
     forget()
-    key, first = symbols("key", 8), counter_of("first")
-    chunks = [symbols(f"chunk {j}", 256) for j in range(4)]
-    wanted = Wanted(one_after_another, key, first, places, chunks)
-    kernel = Kernel(library, "two_chunks::four_chunk_values", [unknown() for _ in range(32)])
-    for place, chunk in zip(places, chunks):
-        kernel.memory.add_words(CHUNKS + 1024 * place, chunk)
+    key, values = symbols("key", 8), [symbols(f"value {j}", 8) for j in range(lanes)]
+    wanted = Wanted(parent_of_each, key, (values[:8:2], values[1:8:2]))
+    kernel = Kernel(library, of_width(FOUR_PARENTS, lanes), [unknown() for _ in range(32)])
     kernel.give_at(FIRST, key)
-    kernel.give(CHUNKS)
-    kernel.give_at(SECOND, indices(places))
-    kernel.give(first)
-    return kernel.must_give(wanted, f"chunks at {list(places)}")
-
-
-def one_after_another(key: Sequence[Word], first: Value, places: Sequence[int], chunks: Sequence[Sequence[Word]]) -> List[Word]:
-    return [word for place, chunk in zip(places, chunks) for word in value_of_chunk(key, add_64(first, place), chunk)]
+    kernel.give_at(SECOND, side_by_side(values))
+    return kernel.must_give(wanted, f"parents of eight subtrees in {lanes} lanes")
 
 
 def orders(lanes: int) -> Dict[str, List[int]]:
@@ -255,20 +227,21 @@ def checks_of_width(library: Library, lanes: int) -> Iterator[Tuple[str, str, Ca
     for name, places in orders(lanes).items():
         for n in range(16):
             yield block, f"take_block of {lanes} lanes, {n}, {name}", partial(check_take_block, library, n, places)
-        yield values, f"chunk_values of {lanes} lanes, {name}", partial(check_chunk_values, library, places)
+        yield values, f"chunk_values of {lanes} lanes, {name}", partial(check_chunk_values, library, values, places)
     each = of_width("compression::lanes::take_in_each", lanes)
     yield each, f"take_in_each of {lanes} lanes", partial(check_take_in_each, library, lanes)
     for parents in ("values_above", "parent_values"):
         yield of_width(f"subtrees::{parents}", lanes), f"{parents} of {lanes} lanes", partial(check_parents, library, parents, lanes)
+    if lanes > 4:
+        yield of_width(FOUR_PARENTS, lanes), f"four_parent_values of {lanes} lanes", partial(check_four_parents, library, lanes)
 
 
 def all_checks(library: Library) -> Iterator[Tuple[str, str, Callable[[], Machine]]]:
     """The checks of all functions that a level could have, each with the function's name and its own."""
     yield "compression::compress", "compress", partial(check_compress, library)
     yield "compression::two::compress_two_from", "compress_two", partial(check_compress_two, library)
-    yield TWO_PAIRS, "compress_two_pairs", partial(check_two_pairs, library)
     for name, places in orders(4).items():
-        yield FOUR_CHUNKS, f"four_chunk_values, {name}", partial(check_four_chunks, library, places)
+        yield FOUR_CHUNKS, f"four_chunk_values, {name}", partial(check_chunk_values, library, FOUR_CHUNKS, places)
     for lanes in WIDTHS:
         if lanes <= library.level.lanes:
             yield from checks_of_width(library, lanes)

@@ -14,12 +14,12 @@ from typing import Callable, Dict, Iterator, List, Sequence, Tuple
 from calls import DATA_KEY, MESSAGE, RESULT, Caller, bytes_of, check_hash_of
 from definition import CHUNK_END, CHUNK_START, KEYED_HASH, PARENT, ROOT, compress, words_at
 from fault import Fault, number
-from kernels import TWO_PAIRS, VALUE_VECTORS, beside, side_by_side
+from kernels import FOUR_CHUNKS, FOUR_PARENTS, VALUE_VECTORS, beside, side_by_side
 from layout import Library, inner
 from machine import Machine, unknown_value
 from pieces import HASHER, Hasher
 from widths import WIDTHS, of_width
-from words import Value, Word, forget, high, low, masked, pair, symbol
+from words import Value, Word, add_64, forget, high, low, masked, pair, symbol
 
 #: How many bytes the largest chunk of Xet has.
 LARGEST = 131072
@@ -127,9 +127,10 @@ class Unknown:
         self.made: Dict[Tuple[object, ...], List[Word]] = {}
         its: Dict[str, Callable[[Arguments], List[Word]]] = {
             "compression::compress": self.one, "compression::two::compress_two_from": self.two,
-            TWO_PAIRS: self.two_pairs,
+            FOUR_CHUNKS: self.four_chunks,
         }
         for lanes in WIDTHS:
+            its[of_width(FOUR_PARENTS, lanes)] = partial(self.four_parents, lanes)
             its[of_width("chunks::take_block", lanes)] = partial(self.take_block, lanes)
             its[of_width("compression::lanes::take_in_each", lanes)] = partial(self.take_in_each, lanes)
         for name, it in its.items():
@@ -165,11 +166,25 @@ class Unknown:
         h, d = its.of_vectors(16, 2), its.of_vectors(8, 2)
         return self.pair(h, d, [its.words(16), its.words(16)])
 
-    def two_pairs(self, its: Arguments) -> List[Word]:
+    def four_chunks(self, its: Arguments) -> List[Word]:
         its.value()
-        h, d = its.of_vectors(32, 2), its.of_vectors(16, 2)
-        blocks = [its.words(16) for _ in range(4)]
-        return [*self.pair(h[:16], d[:8], blocks[:2]), *self.pair(h[16:], d[8:], blocks[2:])]
+        key, chunks, places, first = its.words(8), number(its.value()), its.words(8), its.value()
+        return side_by_side(
+            self.chunk(key, self.m.memory.load(chunks + 1024 * place, 256), add_64(first, place))
+            for place in (number(pair(*places[2 * j:2 * j + 2])) for j in range(4)))
+
+    def chunk(self, key: List[Word], words: List[Word], counter: Value) -> List[Word]:
+        """The value of a whole chunk."""
+        value = key
+        for n in range(16):
+            flags = KEYED_HASH + (CHUNK_START if n == 0 else 0) + (CHUNK_END if n == 15 else 0)
+            value = self.compress(value, words[16 * n:16 * n + 16], counter, 64, flags)
+        return value
+
+    def four_parents(self, lanes: int, its: Arguments) -> List[Word]:
+        its.value()
+        key, values = its.words(8), its.lanes(8, lanes)
+        return side_by_side(self.compress(key, [*values[2 * j], *values[2 * j + 1]], 0, 64, KEYED_HASH + PARENT) for j in range(4))
 
     def take_block(self, lanes: int, its: Arguments) -> List[Word]:
         h, chunks, places, n = its.lanes(8, lanes), number(its.value()), its.words(2 * lanes), number(its.value())

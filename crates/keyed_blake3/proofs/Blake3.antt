@@ -3,13 +3,14 @@ pub mod Absorbing
 pub mod Blocks
 pub mod ByBlocks
 pub mod Finishing
+pub mod FourRows
 pub mod InStep
 pub mod LaneBytes
 pub mod Lanes
 pub mod Merging
 pub mod Messages
 pub mod Rows
+pub mod SharedRows
 pub mod Subtrees
-pub mod TwoRows
-pub mod Waiting
 pub mod Turned
+pub mod Waiting

@@ -6,4 +6,3 @@ pub mod Messages
 pub mod Rows
 pub mod Transposition
 pub mod Tree
-pub mod TwoRows

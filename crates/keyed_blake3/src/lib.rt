@@ -5,7 +5,7 @@
 //!
 //! - `compression` compresses a block of 64 bytes into a chaining value.
 //! - `chunk` compresses the blocks of a chunk one after another.
-//! - `two_chunks` compresses those of two chunks at once, or of two such pairs.
+//! - `two_chunks` compresses those of two chunks at once, and `four_chunks` those of four.
 //! - `chunks` compresses those of several chunks side by side.
 //! - `messages` hashes several messages of at most a chunk side by side.
 //! - `subtrees` compresses several chunks and their parents side by side, up to the value of a complete subtree.
@@ -18,6 +18,7 @@ ghost use Rattle.keyed_blake3.specs.Blake3.{keyed_hash};
 mod chunk;
 mod chunks;
 mod compression;
+mod four_chunks;
 mod hasher;
 mod messages;
 mod subtrees;

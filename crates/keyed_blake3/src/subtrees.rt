@@ -4,15 +4,19 @@ ghost use Rattle.std.specs.Prelude.{◌≡◌, ℕ, ◌+◌, ◌*◌, ◌/◌, �
 ghost use Rattle.keyed_blake3.specs.Blake3.{chunk_value, compress, keyed_hash_flag, parent_flag, parent_value};
 ghost use Rattle.keyed_blake3.specs.declared.compression.width.TheConstants.{WIDEST};
 ghost use Rattle.keyed_blake3.specs.Steps.Lanes.{AreFull, beside, lane, value_at};
+ghost use Rattle.keyed_blake3.specs.Steps.Rows.{words_in};
 ghost use Rattle.keyed_blake3.specs.Steps.Tree.{subtree_at};
 
 use crate::chunk::{BLOCK_LEN, CHUNK_LEN, KEYED_HASH};
 use crate::chunks::{chunk_values, key_of_each};
+use crate::compression::four::{four_times, lanes_of_values, of_neighbours};
 use crate::compression::lanes::{lane, take_in_each};
+use crate::compression::rows::{Block, Quads, Rows};
+use crate::compression::states::{FourStates, States, compress_all, last_row};
 use crate::compression::two::{apart, both, compress_two};
-use crate::compression::two_rows::Block;
-use crate::compression::width::{Lanes, WIDEST, Width};
-use crate::two_chunks::{four_chunk_values, two_chunk_values};
+use crate::compression::width::{Lanes, WIDEST, Width, lanes_of};
+use crate::four_chunks::four_chunk_values;
+use crate::two_chunks::two_chunk_values;
 
 // The domain flag (table 3) of a parent.
 pub(crate) const PARENT: u32 = 4;
@@ -156,48 +160,16 @@ fn values_apart<W: Width<L, B>, const L: usize, const B: usize>(
     values_above::<W, L, B>(key, &left, &right)
 }
 
-// Returns vectors' first four lanes: four words, and zeros.
+// Returns a vector's first two lanes: two words, and zeros.
 #[inline(always)]
-fn of_four<W: Width<L, B>, const L: usize, const B: usize>(
-    x0: u32,
-    x1: u32,
-    x2: u32,
-    x3: u32,
-) -> Lanes<L>
+fn of_two<W: Width<L, B>, const L: usize, const B: usize>(x: u32, y: u32) -> Lanes<L>
     ensures full { length result ≡ L }
-    ensures lanes { (slice_index result 0 ≡ x0) × (slice_index result 1 ≡ x1) × (slice_index result 2 ≡ x2)
-        × (slice_index result 3 ≡ x3) }
+    ensures lanes { (slice_index result 0 ≡ x) × (slice_index result 1 ≡ y) }
 {
     let mut words = [0u32; L];
-    words[0] = x0;
-    words[1] = x1;
-    words[2] = x2;
-    words[3] = x3;
+    words[0] = x;
+    words[1] = y;
     words
-}
-
-// Returns vectors of the words of four values, in the first four lanes.
-#[inline(always)]
-fn lanes_of_four<W: Width<L, B>, const L: usize, const B: usize>(
-    x0: &[u32; 8],
-    x1: &[u32; 8],
-    x2: &[u32; 8],
-    x3: &[u32; 8],
-) -> [Lanes<L>; 8]
-    ensures full { AreFull L result }
-    ensures lanes { (lane 0 result ≡ x0.now) × (lane 1 result ≡ x1.now) × (lane 2 result ≡ x2.now)
-        × (lane 3 result ≡ x3.now) }
-{
-    [
-        of_four::<W, L, B>(x0[0], x1[0], x2[0], x3[0]),
-        of_four::<W, L, B>(x0[1], x1[1], x2[1], x3[1]),
-        of_four::<W, L, B>(x0[2], x1[2], x2[2], x3[2]),
-        of_four::<W, L, B>(x0[3], x1[3], x2[3], x3[3]),
-        of_four::<W, L, B>(x0[4], x1[4], x2[4], x3[4]),
-        of_four::<W, L, B>(x0[5], x1[5], x2[5], x3[5]),
-        of_four::<W, L, B>(x0[6], x1[6], x2[6], x3[6]),
-        of_four::<W, L, B>(x0[7], x1[7], x2[7], x3[7]),
-    ]
 }
 
 // Returns vectors of the words of two values, in the first two lanes.
@@ -210,7 +182,46 @@ fn lanes_of_two<W: Width<L, B>, const L: usize, const B: usize>(
     ensures first { lane 0 result ≡ x.now }
     ensures second { lane 1 result ≡ y.now }
 {
-    lanes_of_four::<W, L, B>(x, y, x, y)
+    [
+        of_two::<W, L, B>(x[0], y[0]),
+        of_two::<W, L, B>(x[1], y[1]),
+        of_two::<W, L, B>(x[2], y[2]),
+        of_two::<W, L, B>(x[3], y[3]),
+        of_two::<W, L, B>(x[4], y[4]),
+        of_two::<W, L, B>(x[5], y[5]),
+        of_two::<W, L, B>(x[6], y[6]),
+        of_two::<W, L, B>(x[7], y[7]),
+    ]
+}
+
+// Returns a vector whose first four lanes these are, and zeros.
+#[inline(always)]
+fn of_four<W: Width<L, B>, const L: usize, const B: usize>(x: &Lanes<4>) -> Lanes<L>
+    ensures full { length result ≡ L }
+    ensures lanes { (j : ℕ) → j < 4 → slice_index result j ≡ slice_index x.now j }
+{
+    let mut words = [0u32; L];
+    words[..4].copy_from_slice(x);
+    words
+}
+
+// Returns vectors whose first four lanes these are.
+#[inline(always)]
+fn lanes_of_four<W: Width<L, B>, const L: usize, const B: usize>(x: &[Lanes<4>; 8]) -> [Lanes<L>; 8]
+    requires { AreFull 4 x.now }
+    ensures full { AreFull L result }
+    ensures lanes { (j : ℕ) → j < 4 → lane j result ≡ lane j x.now }
+{
+    [
+        of_four::<W, L, B>(&x[0]),
+        of_four::<W, L, B>(&x[1]),
+        of_four::<W, L, B>(&x[2]),
+        of_four::<W, L, B>(&x[3]),
+        of_four::<W, L, B>(&x[4]),
+        of_four::<W, L, B>(&x[5]),
+        of_four::<W, L, B>(&x[6]),
+        of_four::<W, L, B>(&x[7]),
+    ]
 }
 
 // Returns the values of two chunks, in the first two lanes. The first one has number `first`.
@@ -241,8 +252,7 @@ fn values_of_four<W: Width<L, B>, const L: usize, const B: usize>(
     ensures lanes { (j : ℕ) → 1024 * j + 1024 ≤ length chunks.now → lane j result ≡ value_at key.now first chunks.now j }
 {
     let places = neighbours(chunks.len() / CHUNK_LEN - 1);
-    let (x0, x1, x2, x3) = four_chunk_values(key, chunks, &places, first);
-    lanes_of_four::<W, L, B>(&x0, &x1, &x2, &x3)
+    lanes_of_four::<W, L, B>(&four_chunk_values(key, chunks, &places, first))
 }
 
 // Returns the values of up to `L` subtrees of one size, of which the first begins with chunk number `first`. If
@@ -309,7 +319,44 @@ fn two_parent_values<W: Width<L, B>, const L: usize, const B: usize>(
     lanes_of_two::<W, L, B>(&x, &y)
 }
 
-// Returns the values of the parents of the first `count` subtrees, two for each.
+// Returns the blocks of the parents of eight subtrees (2.5).
+#[inline(always)]
+fn parent_blocks<W: Width<L, B>, const L: usize, const B: usize>(
+    values: &[Lanes<L>; 8],
+) -> Quads<16>
+    requires lanes { 8 ≤ L }
+    requires full { AreFull L values.now }
+    ensures { (j : ℕ) → j < 4 → words_in j result ≡ lane (2 * j) values.now ++ lane (2 * j + 1) values.now }
+{
+    let (a, c) = of_neighbours(&values[0], &values[1], &values[2], &values[3]);
+    let (b, d) = of_neighbours(&values[4], &values[5], &values[6], &values[7]);
+    FourStates::quads(&Rows {
+        a: lanes_of(a),
+        b: lanes_of(b),
+        c: lanes_of(c),
+        d: lanes_of(d),
+    })
+}
+
+// Returns the values of the parents of eight subtrees, by the four of which each lane has one.
+#[inline(never)]
+fn four_parent_values<W: Width<L, B>, const L: usize, const B: usize>(
+    key: &[u32; 8],
+    values: &[Lanes<L>; 8],
+) -> [Lanes<4>; 8]
+    requires lanes { 8 ≤ L }
+    requires full { AreFull L values.now }
+    ensures full { AreFull 4 result }
+    ensures lanes { (j : ℕ) → j < 4 → lane j result
+        ≡ parent_value key.now (lane (2 * j) values.now) (lane (2 * j + 1) values.now) 0 }
+{
+    let m = parent_blocks::<W, L, B>(values);
+    let d = FourStates::each(last_row(0, BLOCK_LEN as u32, KEYED_HASH + PARENT));
+    lanes_of_values(&compress_all::<FourStates, 16, L>(&four_times(key), &d, &m))
+}
+
+// Returns the values of the parents of the first `count` subtrees, two for each. Four parents at once take the longest vectors, which
+// slow the clock of some processors: so they do only where the lanes take these, too.
 fn joined_values<W: Width<L, B>, const L: usize, const B: usize>(
     key: &[u32; 8],
     values: &[Lanes<L>; 8],
@@ -323,6 +370,9 @@ fn joined_values<W: Width<L, B>, const L: usize, const B: usize>(
 {
     if L == 4 || count <= 4 {
         return two_parent_values::<W, L, B>(key, values);
+    }
+    if L >= 8 && L >= WIDEST && count <= 8 {
+        return lanes_of_four::<W, L, B>(&four_parent_values::<W, L, B>(key, values));
     }
     parent_values::<W, L, B>(key, values, values)
 }

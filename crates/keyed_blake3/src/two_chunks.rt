@@ -1,18 +1,13 @@
-//! The chaining values of two chunks at once, and of two such pairs (BLAKE3 specification, 2.4). The chunks of one pair may have
-//! their own lengths.
+//! The chaining values of two chunks at once (BLAKE3 specification, 2.4). The chunks may have their own lengths.
 
-ghost use Rattle.std.specs.Prelude.{◌≡◌, ℕ, ◌*◌, ◌+◌, ◌^◌, ◌<◌, ◌≤◌, List, length, slice_index};
+ghost use Rattle.std.specs.Prelude.{◌≡◌, ℕ, ◌+◌, ◌≤◌, List, length};
 ghost use Rattle.keyed_blake3.specs.Blake3.{block, blocks_before_last, chunk_value, words_at};
 ghost use Rattle.keyed_blake3.specs.Steps.Blocks.{block_flags, block_len, value_after};
-ghost use Rattle.keyed_blake3.specs.Steps.Lanes.{chunk_at, value_at};
-ghost use Rattle.keyed_blake3.specs.Steps.TwoRows.{value_in};
+ghost use Rattle.keyed_blake3.specs.Steps.Rows.{value_in};
 
-use crate::chunk::{
-    BLOCK_LEN, BLOCKS_PER_CHUNK, CHUNK_END, CHUNK_LEN, KEYED_HASH, last_block, start_flag,
-    value_from, words,
-};
-use crate::compression::two::{apart, both, compress_two, compress_two_pairs};
-use crate::compression::two_rows::{Block, TwoValues};
+use crate::chunk::{BLOCK_LEN, CHUNK_END, KEYED_HASH, last_block, start_flag, value_from, words};
+use crate::compression::rows::{Block, Values};
+use crate::compression::two::{apart, both, compress_two};
 
 // Returns the words of a block of at most 64 bytes, filled up with zero bytes.
 #[inline(always)]
@@ -57,27 +52,16 @@ fn block_of(chunk: &[u8], n: usize, counter: u64, flags: u32) -> Block
     }
 }
 
-// Returns the chunk at a place.
-#[inline(always)]
-fn chunk_at(chunks: &[u8], place: usize) -> &[u8]
-    requires { 1024 * place + 1024 ≤ length chunks.now }
-    ensures bytes { result.now ≡ chunk_at place chunks.now }
-    ensures len { length result.now ≡ 1024 }
-{
-    let at = CHUNK_LEN * place;
-    &chunks[at..at + CHUNK_LEN]
-}
-
 // Takes in block number `n` of two chunks. The last one of each has the flags `flags`, too.
 #[inline(always)]
 fn take_blocks(
-    h: &TwoValues,
+    h: &Values<8>,
     first: &[u8],
     second: &[u8],
     n: usize,
     counters: (u64, u64),
     flags: u32,
-) -> TwoValues
+) -> Values<8>
     requires first { (length first.now ≤ 1024) × (n ≤ blocks_before_last first.now) }
     requires second { (length second.now ≤ 1024) × (n ≤ blocks_before_last second.now) }
     requires flags { flags ≤ 8 }
@@ -116,35 +100,4 @@ pub(crate) fn two_chunk_values(
         value_from(&of_first, first, blocks, counters.0, flags),
         value_from(&of_second, second, blocks, counters.1, flags),
     )
-}
-
-// Returns the chaining values of the chunks at four places. The first of `chunks` has number `first`.
-pub(crate) fn four_chunk_values(
-    key: &[u32; 8],
-    chunks: &[u8],
-    places: &[usize; 4],
-    first: u64,
-) -> ([u32; 8], [u32; 8], [u32; 8], [u32; 8])
-    requires counter { (j : ℕ) → j < 4 → first + slice_index places.now j < 2 ^ 64 }
-    requires places { (j : ℕ) → j < 4 → 1024 * slice_index places.now j + 1024 ≤ length chunks.now }
-    ensures first { result.0 ≡ value_at key.now first chunks.now (slice_index places.now 0) }
-    ensures second { result.1 ≡ value_at key.now first chunks.now (slice_index places.now 1) }
-    ensures third { result.2 ≡ value_at key.now first chunks.now (slice_index places.now 2) }
-    ensures fourth { result.3 ≡ value_at key.now first chunks.now (slice_index places.now 3) }
-{
-    let [i, j, k, l] = *places;
-    let (of_i, of_j) = (chunk_at(chunks, i), chunk_at(chunks, j));
-    let (of_k, of_l) = (chunk_at(chunks, k), chunk_at(chunks, l));
-    let mut left = both(key, key);
-    let mut right = both(key, key);
-    'chain: for n in 0..BLOCKS_PER_CHUNK as usize {
-        let block_i = block_of(of_i, n, first + i as u64, 0);
-        let block_j = block_of(of_j, n, first + j as u64, 0);
-        let block_k = block_of(of_k, n, first + k as u64, 0);
-        let block_l = block_of(of_l, n, first + l as u64, 0);
-        (left, right) = compress_two_pairs(&left, &right, &block_i, &block_j, &block_k, &block_l);
-    }
-    let (of_i, of_j) = apart(&left);
-    let (of_k, of_l) = apart(&right);
-    (of_i, of_j, of_k, of_l)
 }

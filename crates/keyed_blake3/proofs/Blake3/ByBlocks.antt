@@ -30,6 +30,12 @@ block_len-last chunk n h = grind (arith, nat_tests)
 pub block_len-before : (chunk : List ℕ) (n : ℕ) → n < blocks_before_last chunk → block_len chunk n ≡ 64
 block_len-before chunk n h = grind (arith, nat_tests)
 
+pub block_len-whole : (chunk : List ℕ) (n : ℕ) → length chunk ≡ 1024 → n ≤ blocks_before_last chunk → block_len chunk n ≡ 64
+block_len-whole chunk n size within = elim (cases_lt n (blocks_before_last chunk)) [
+  | inl less ↦ block_len-before chunk n less
+  | inr last ↦ block_len-last chunk n (omega arith) ∙ omega (arith, size)
+]
+
 pub block_flags-last : (chunk : List ℕ) (n flags : ℕ) → n ≡ blocks_before_last chunk
     → block_flags chunk n flags ≡ keyed_hash_flag + start_flag n + chunk_end_flag + flags
 block_flags-last chunk n flags h = grind (arith, nat_tests)

@@ -9,7 +9,7 @@ use Rattle.keyed_blake3.specs.Steps.Lanes.{AreFull, lane}
 use Rattle.keyed_blake3.specs.Steps.Rows.{half_columns}
 use Rattle.keyed_blake3.specs.declared.compression.lane_rows.Row.{Row}
 use Rattle.keyed_blake3.proofs.Blake3.Lanes.{both_at, both_full, lane_at}
-use Rattle.keyed_blake3.proofs.Blake3.Rows.{columns, columns_by_halves, diagonals, diagonals_by_halves, folded-rows, four, half_columns-rows, turned, turned_back}
+use Rattle.keyed_blake3.proofs.Blake3.Rows.{columns, diagonals, folded-rows, half_columns-rows}
 use lib.Lanes.{zip2}
 
 -- ---- half of G on each column
@@ -57,17 +57,6 @@ half_columns_by_steps a b c d x a0 a1 x1 d1 c1 x2 b1 r s ha hb hc hd hx e0 e1 e2
 
 -- ---- a round
 
--- the rows but b turned, and turned back
-pub turned_by_steps : (a b c d a1 c1 d1 : List ℕ) → length a ≡ 4 → length b ≡ 4 → length c ≡ 4 → length d ≡ 4
-    → a1 ≡ get_or a 3 0 ∷ get_or a 0 0 ∷ get_or a 1 0 ∷ get_or a 2 0 ∷ [] → c1 ≡ get_or c 1 0 ∷ get_or c 2 0 ∷ get_or c 3 0 ∷ get_or c 0 0 ∷ []
-    → d1 ≡ get_or d 2 0 ∷ get_or d 3 0 ∷ get_or d 0 0 ∷ get_or d 1 0 ∷ [] → a1 ++ b ++ c1 ++ d1 ≡ turned (a ++ b ++ c ++ d)
-turned_by_steps a b c d a1 c1 d1 ha hb hc hd ea ec ed = rw (ea, ec, ed, four a ha, four b hb, four c hc, four d hd) refl
-
-pub turned_back_by_steps : (a b c d a1 c1 d1 : List ℕ) → length a ≡ 4 → length b ≡ 4 → length c ≡ 4 → length d ≡ 4
-    → a1 ≡ get_or a 1 0 ∷ get_or a 2 0 ∷ get_or a 3 0 ∷ get_or a 0 0 ∷ [] → c1 ≡ get_or c 3 0 ∷ get_or c 0 0 ∷ get_or c 1 0 ∷ get_or c 2 0 ∷ []
-    → d1 ≡ get_or d 2 0 ∷ get_or d 3 0 ∷ get_or d 0 0 ∷ get_or d 1 0 ∷ [] → a1 ++ b ++ c1 ++ d1 ≡ turned_back (a ++ b ++ c ++ d)
-turned_back_by_steps a b c d a1 c1 d1 ha hb hc hd ea ec ed = rw (ea, ec, ed, four a ha, four b hb, four c hc, four d hd) refl
-
 -- the words of message vectors at a lane
 abbrev pub quad : ℕ → List (List ℕ) → ℕ → ℕ → ℕ → ℕ → List ℕ
 quad j m i k n p = get_or (get_or m i []) j 0 ∷ get_or (get_or m k []) j 0 ∷ get_or (get_or m n []) j 0 ∷ get_or (get_or m p []) j 0 ∷ []
@@ -84,21 +73,6 @@ unfolding round columns diagonals
 round_in_step j m v =
     let at = lane_at j m in
     rw (at 0, at 1, at 2, at 3, at 4, at 5, at 6, at 7, at 8, at 9, at 10, at 11, at 12, at 13, at 14, at 15) refl
-
-pub round_by_halves : (j : ℕ) (m : List (List ℕ)) (a b c d v1 a2 b2 c2 d2 v3 v4 turns result : List ℕ)
-    → length a ≡ 4 → length b ≡ 4 → length c ≡ 4 → length d ≡ 4 → length a2 ≡ 4 → length b2 ≡ 4 → length c2 ≡ 4 → length d2 ≡ 4
-    → v1 ≡ half_columns (a ++ b ++ c ++ d) (quad j m 0 2 4 6) 16 12 → a2 ++ b2 ++ c2 ++ d2 ≡ half_columns v1 (quad j m 1 3 5 7) 8 7
-    → turns ≡ turned (a2 ++ b2 ++ c2 ++ d2) → v3 ≡ half_columns turns (quad j m 14 8 10 12) 16 12 → v4 ≡ half_columns v3 (quad j m 15 9 11 13) 8 7
-    → result ≡ turned_back v4 → result ≡ round (a ++ b ++ c ++ d) (lane j m)
-round_by_halves j m a b c d v1 a2 b2 c2 d2 v3 v4 turns result ha hb hc hd ha2 hb2 hc2 hd2 e1 e2 et e3 e4 e =
-    let x : List ℕ = quad j m 8 10 12 14 in
-    let y : List ℕ = quad j m 9 11 13 15 in
-    let first : a2 ++ b2 ++ c2 ++ d2 ≡ columns (a ++ b ++ c ++ d) (quad j m 0 2 4 6) (quad j m 1 3 5 7) =
-    e2 ∙ ap (λ (v : List ℕ). half_columns v (quad j m 1 3 5 7) 8 7) e1 ∙ columns_by_halves a b c d (quad j m 0 2 4 6) (quad j m 1 3 5 7) ha hb hc hd in
-    e ∙ ap turned_back (e4 ∙ ap (λ (v : List ℕ). half_columns v (quad j m 15 9 11 13) 8 7)
-    (e3 ∙ ap (λ (v : List ℕ). half_columns v (quad j m 14 8 10 12) 16 12) et))
-    ∙ diagonals_by_halves a2 b2 c2 d2 (quad j m 14 8 10 12) (quad j m 15 9 11 13) ha2 hb2 hc2 hd2
-    ∙ ap (λ (v : List ℕ). diagonals v x y) first ∙ round_in_step j m (a ++ b ++ c ++ d)
 
 -- ---- the ends of a compression
 

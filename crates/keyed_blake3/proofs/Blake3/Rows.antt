@@ -1,11 +1,11 @@
 -- Rows of four words, and the laws of the columns.
-use Rattle.std.proofs.Common.{◌≡◌, ℕ, ◌-◌, ◌*◌, ◌/◌, ◌%◌, ◌^◌, ◌<◌, ◌≤◌, List, [], ◌∷◌, ◌++◌, length, map, get_or, replicate, bit_or, bit_xor, slice_index, refl, sym, ◌∙◌, arith}
+use Rattle.std.proofs.Common.{◌≡◌, ℕ, ◌-◌, ◌*◌, ◌/◌, ◌%◌, ◌^◌, ◌<◌, ◌≤◌, List, [], ◌∷◌, ◌++◌, length, map, get_or, replicate, bit_or, bit_xor, slice_index, refl, arith}
 use Rattle.std.specs.Int.{rotate_right, w32}
 use Rattle.std.specs.List.{range_with_len}
 use Rattle.keyed_blake3.specs.Blake3.{add32, compress, first_state, folded, half_mix, mix, permuted, round, rounds}
-use Rattle.keyed_blake3.specs.Steps.Rows.{from_second, half_columns}
+use Rattle.keyed_blake3.specs.Steps.Rows.{from_second, half_columns, turned, turned_back}
 use Rattle.std.proofs.lemmas.List.FromFn.{fill_by_all}
-use Rattle.std.proofs.lemmas.Simd.{length-zip2, zip2-map, zip2_splat}
+use Rattle.std.proofs.lemmas.Simd.{zip2-map, zip2_splat}
 use lib.Lanes.{zip2}
 
 -- four words
@@ -67,27 +67,6 @@ unfoldable pub diagonals : List ℕ → List ℕ → List ℕ → List ℕ
 diagonals v x y = mix (mix (mix (mix v 0 5 10 15 (slice_index x 0) (slice_index y 0)) 1 6 11 12 (slice_index x 1) (slice_index y 1)) 2 7 8 13 (slice_index x 2) (slice_index y 2))
     3 4 9 14 (slice_index x 3) (slice_index y 3)
 
--- the rows but b turned, so that the diagonals stand as columns, the last one first, and back
-abbrev pub turned : List ℕ → List ℕ
-turned v = map (slice_index v) (3 ∷ 0 ∷ 1 ∷ 2 ∷ 4 ∷ 5 ∷ 6 ∷ 7 ∷ 9 ∷ 10 ∷ 11 ∷ 8 ∷ 14 ∷ 15 ∷ 12 ∷ 13 ∷ [])
-
-abbrev pub turned_back : List ℕ → List ℕ
-turned_back v = map (slice_index v) (1 ∷ 2 ∷ 3 ∷ 0 ∷ 4 ∷ 5 ∷ 6 ∷ 7 ∷ 11 ∷ 8 ∷ 9 ∷ 10 ∷ 14 ∷ 15 ∷ 12 ∷ 13 ∷ [])
-
-pub turned-rows : (a b c d : List ℕ) → length a ≡ 4 → length b ≡ 4 → length c ≡ 4 → length d ≡ 4
-    → (get_or (a ++ a) 3 0 ∷ get_or (a ++ a) 0 0 ∷ get_or (a ++ a) 1 0 ∷ get_or (a ++ a) 2 0 ∷ []) ++ b
-    ++ (get_or (c ++ c) 1 0 ∷ get_or (c ++ c) 2 0 ∷ get_or (c ++ c) 3 0 ∷ get_or (c ++ c) 0 0 ∷ [])
-    ++ (get_or (d ++ d) 2 0 ∷ get_or (d ++ d) 3 0 ∷ get_or (d ++ d) 0 0 ∷ get_or (d ++ d) 1 0 ∷ [])
-    ≡ turned (a ++ b ++ c ++ d)
-turned-rows a b c d ha hb hc hd = rw (four a ha, four b hb, four c hc, four d hd) refl
-
-pub turned_back-rows : (a b c d : List ℕ) → length a ≡ 4 → length b ≡ 4 → length c ≡ 4 → length d ≡ 4
-    → (get_or (a ++ a) 1 0 ∷ get_or (a ++ a) 2 0 ∷ get_or (a ++ a) 3 0 ∷ get_or (a ++ a) 0 0 ∷ []) ++ b
-    ++ (get_or (c ++ c) 3 0 ∷ get_or (c ++ c) 0 0 ∷ get_or (c ++ c) 1 0 ∷ get_or (c ++ c) 2 0 ∷ [])
-    ++ (get_or (d ++ d) 2 0 ∷ get_or (d ++ d) 3 0 ∷ get_or (d ++ d) 0 0 ∷ get_or (d ++ d) 1 0 ∷ [])
-    ≡ turned_back (a ++ b ++ c ++ d)
-turned_back-rows a b c d ha hb hc hd = rw (four a ha, four b hb, four c hc, four d hd) refl
-
 pub columns_by_halves : (a b c d x y : List ℕ) → length a ≡ 4 → length b ≡ 4 → length c ≡ 4 → length d ≡ 4
     → half_columns (half_columns (a ++ b ++ c ++ d) x 16 12) y 8 7 ≡ columns (a ++ b ++ c ++ d) x y
 unfolding columns half_columns mix half_mix
@@ -98,6 +77,10 @@ pub diagonals_by_halves : (a b c d x y : List ℕ) → length a ≡ 4 → length
 unfolding diagonals half_columns mix half_mix
 diagonals_by_halves a b c d x y ha hb hc hd = rw (four a ha, four b hb, four c hc, four d hd) refl
 
--- a vector of the lanes of two
-pub length-zip2_four : (f : ℕ → ℕ → ℕ) (x y : List ℕ) → length x ≡ 4 → length y ≡ 4 → length (zip2 f x y) ≡ 4
-length-zip2_four f x y hx hy = length-zip2 f x y (hx ∙ sym hy) ∙ hx
+pub round_by_halves : (a b c d a1 b1 c1 d1 x y z w v1 turns v3 v4 result : List ℕ) → length a ≡ 4 → length b ≡ 4 → length c ≡ 4 → length d ≡ 4
+    → length a1 ≡ 4 → length b1 ≡ 4 → length c1 ≡ 4 → length d1 ≡ 4
+    → v1 ≡ half_columns (a ++ b ++ c ++ d) x 16 12 → a1 ++ b1 ++ c1 ++ d1 ≡ half_columns v1 y 8 7
+    → turns ≡ turned (a1 ++ b1 ++ c1 ++ d1) → v3 ≡ half_columns turns z 16 12 → v4 ≡ half_columns v3 w 8 7 → result ≡ turned_back v4
+    → result ≡ diagonals (columns (a ++ b ++ c ++ d) x y) (from_second z) (from_second w)
+round_by_halves a b c d a1 b1 c1 d1 x y z w v1 turns v3 v4 result ha hb hc hd ha1 hb1 hc1 hd1 e1 e2 et e3 e4 e =
+    rw (e, e4, e3, et, diagonals_by_halves a1 b1 c1 d1 z w ha1 hb1 hc1 hd1, e2, e1, columns_by_halves a b c d x y ha hb hc hd) refl

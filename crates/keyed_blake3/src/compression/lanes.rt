@@ -5,9 +5,9 @@ ghost use Rattle.keyed_blake3.specs.Blake3.{compress, first_state, folded, permu
 ghost use Rattle.keyed_blake3.specs.Steps.LaneRows.{row_at, state_at};
 ghost use Rattle.keyed_blake3.specs.Steps.Lanes.{AreFull, lane};
 
-use crate::compression::INITIALIZATION_VECTOR;
 use crate::compression::in_step::{byte_row, round, row, word_row, xor};
 use crate::compression::lane_rows::{LaneRows, Row};
+use crate::compression::states::INITIALIZATION_VECTOR;
 use crate::compression::width::{Lanes, WIDEST, Width, lanes_of};
 use std::simd::prelude::*;
 

@@ -1,28 +1,45 @@
-//! The state of a compression and a message block, as vectors of four words.
+//! The states of compressions and their message blocks, as vectors of `N` words: four for each compression, a quad.
 
 ghost use Rattle.std.specs.Prelude.{◌≡◌, length};
 
-use std::simd::prelude::*;
+use crate::compression::width::Lanes;
 
-// The state as the rows of a square: a column of it is what one G works on.
+// The states as the rows of squares: a column of a square is what one G works on.
 #[derive(Clone, Copy)]
-pub(crate) struct Rows {
-    pub(crate) a: u32x4,
-    pub(crate) b: u32x4,
-    pub(crate) c: u32x4,
-    pub(crate) d: u32x4,
-    ghost fours: { (length a ≡ 4) × (length b ≡ 4) × (length c ≡ 4) × (length d ≡ 4) },
+pub(crate) struct Rows<const N: usize> {
+    pub(crate) a: Lanes<N>,
+    pub(crate) b: Lanes<N>,
+    pub(crate) c: Lanes<N>,
+    pub(crate) d: Lanes<N>,
+    ghost full: { (length a ≡ N) × (length b ≡ N) × (length c ≡ N) × (length d ≡ N) },
 }
 
-// The words of a message block, by the part of the round that they enter: the columns' first and
+// The words of the message blocks, by the part of the round that they enter: the columns' first and
 // second halves, then the diagonals'. The last diagonal stands first, since it has the first word of
 // row b.
 #[derive(Clone, Copy)]
-pub(crate) struct Quads {
-    pub(crate) column_first: u32x4,
-    pub(crate) column_second: u32x4,
-    pub(crate) diagonal_first: u32x4,
-    pub(crate) diagonal_second: u32x4,
-    ghost fours: { (length column_first ≡ 4) × (length column_second ≡ 4) × (length diagonal_first ≡ 4)
-        × (length diagonal_second ≡ 4) },
+pub(crate) struct Quads<const N: usize> {
+    pub(crate) column_first: Lanes<N>,
+    pub(crate) column_second: Lanes<N>,
+    pub(crate) diagonal_first: Lanes<N>,
+    pub(crate) diagonal_second: Lanes<N>,
+    ghost full: { (length column_first ≡ N) × (length column_second ≡ N) × (length diagonal_first ≡ N)
+        × (length diagonal_second ≡ N) },
+}
+
+// The chaining values, as rows a and b of the states that begin with them.
+#[derive(Clone, Copy)]
+pub(crate) struct Values<const N: usize> {
+    pub(crate) a: Lanes<N>,
+    pub(crate) b: Lanes<N>,
+    ghost full: { (length a ≡ N) × (length b ≡ N) },
+}
+
+// What a compression takes in beside the chaining value.
+#[derive(Clone, Copy)]
+pub(crate) struct Block {
+    pub(crate) words: [u32; 16],
+    pub(crate) counter: u64,
+    pub(crate) len: u32,
+    pub(crate) flags: u32,
 }

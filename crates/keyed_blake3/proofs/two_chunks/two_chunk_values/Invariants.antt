@@ -1,6 +1,6 @@
 use Rattle.std.proofs.Common.{◌≡◌}
 use Rattle.keyed_blake3.specs.Steps.Blocks.{value_after}
-use Rattle.keyed_blake3.specs.Steps.TwoRows.{value_in}
+use Rattle.keyed_blake3.specs.Steps.Rows.{value_in}
 use Rattle.keyed_blake3.proofs.two_chunks.two_chunk_values.Given as goal
 
 abbrev pub invariant-chain : goal.invariant-chain

@@ -2,7 +2,7 @@
 
 ghost use Rattle.std.proofs.Common.{rules};
 
-use crate::compression::rotated;
+use crate::compression::states::rotated;
 use crate::compression::width::{
     Eight, LaneBytes, Lanes, Width, byte_vector, bytes, lanes_of, vector,
 };

@@ -4,7 +4,7 @@ ghost use Rattle.std.proofs.Common.{rules};
 ghost use Rattle.std.specs.Prelude.{◌≡◌, ◌+◌, ◌++◌};
 ghost use Rattle.keyed_blake3.specs.Steps.Transposition.{by_turns, by_twos, picked, quarters};
 
-use crate::compression::rotated;
+use crate::compression::states::rotated;
 use crate::compression::width::{
     LaneBytes, Lanes, Sixteen, Width, byte_vector, bytes, lanes_of, vector,
 };

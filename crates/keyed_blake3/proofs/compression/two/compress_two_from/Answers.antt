@@ -1,20 +1,11 @@
-use Rattle.std.proofs.Common.{◌<◌, arith}
-use Rattle.keyed_blake3.specs.Steps.TwoRows.{value_in}
-use Rattle.keyed_blake3.proofs.Blake3.Rows.{compress_by_steps}
+use Rattle.std.proofs.Common.{arith, ap, ◌∙◌}
+use Rattle.keyed_blake3.specs.Steps.Rows.{quad_at}
 use Rattle.keyed_blake3.proofs.compression.two.compress_two_from.Goals as goal
 
 pub returns-clause-first : goal.returns-clause-first
-returns-clause-first c = λ counter block_len flags d.
-    let h : 0 < 2 = omega arith in
-    compress_by_steps (value_in 0 c.args.h.now) c.args.first.now counter block_len flags _ _ _ _ _ _ _ _ _ _ _ _ _ _ _ _
-    (c.first_state-v.ensures 0 counter block_len flags h d) c.quads_of-m.ensures.first (c.round-v.ensures 0 h) (c.permuted-m.ensures 0 h) (c.round-v-2.ensures 0 h) (c.permuted-m-2.ensures 0 h)
-    (c.round-v-3.ensures 0 h) (c.permuted-m-3.ensures 0 h) (c.round-v-4.ensures 0 h) (c.permuted-m-4.ensures 0 h) (c.round-v-5.ensures 0 h) (c.permuted-m-5.ensures 0 h)
-    (c.round-v-6.ensures 0 h) (c.permuted-m-6.ensures 0 h) (c.round-v-7.ensures 0 h) (c.folded.ensures 0 h)
+returns-clause-first c = λ counter block_len flags last.
+    rw c.quads_of.ensures.first at (c.compress_all.ensures 0 counter block_len flags (omega arith) (ap (quad_at 0) c.lanes_of.ensures ∙ last))
 
 pub returns-clause-second : goal.returns-clause-second
-returns-clause-second c = λ counter block_len flags d.
-    let h : 1 < 2 = omega arith in
-    compress_by_steps (value_in 1 c.args.h.now) c.args.second.now counter block_len flags _ _ _ _ _ _ _ _ _ _ _ _ _ _ _ _
-    (c.first_state-v.ensures 1 counter block_len flags h d) c.quads_of-m.ensures.second (c.round-v.ensures 1 h) (c.permuted-m.ensures 1 h) (c.round-v-2.ensures 1 h) (c.permuted-m-2.ensures 1 h)
-    (c.round-v-3.ensures 1 h) (c.permuted-m-3.ensures 1 h) (c.round-v-4.ensures 1 h) (c.permuted-m-4.ensures 1 h) (c.round-v-5.ensures 1 h) (c.permuted-m-5.ensures 1 h)
-    (c.round-v-6.ensures 1 h) (c.permuted-m-6.ensures 1 h) (c.round-v-7.ensures 1 h) (c.folded.ensures 1 h)
+returns-clause-second c = λ counter block_len flags last.
+    rw c.quads_of.ensures.second at (c.compress_all.ensures 1 counter block_len flags (omega arith) (ap (quad_at 1) c.lanes_of.ensures ∙ last))
