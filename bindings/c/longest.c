@@ -481,6 +481,29 @@ static void session_from_json(void)
     free(it.text);
 }
 
+static void hash_index_new(void)
+{
+    yurewha_hash_index index = {0};
+    EXPECT_STATUS(YUREWHA_DONE, yurewha_hash_index_new(&index));
+    yurewha_hash_index_free(&index);
+}
+
+/* Many at once, and one to many. */
+static void hash_index_insert(void)
+{
+    yurewha_hash_index index = {0};
+    size_t fresh = 0;
+    uint64_t *numbers = block(LONGEST * sizeof *numbers);
+    for (size_t i = 0; i < LONGEST; i++)
+        numbers[i] = i;
+    EXPECT_STATUS(YUREWHA_DONE, yurewha_hash_index_new(&index));
+    EXPECT_STATUS(YUREWHA_DONE, yurewha_hash_index_insert(&index, it.hashes, LONGEST, numbers, LONGEST, &fresh));
+    EXPECT(fresh == LONGEST);
+    EXPECT_STATUS(YUREWHA_DONE, yurewha_hash_index_insert(&index, &other.hash, 1, numbers, 1, &fresh));
+    yurewha_hash_index_free(&index);
+    free(numbers);
+}
+
 #define ROW(call) {#call, call}
 struct call {
     const char *name;
@@ -498,7 +521,7 @@ static const struct call of_lists[] = {
 static const struct call of_sessions[] = {
     ROW(session_new), ROW(session_new_without_hashes), ROW(session_put), ROW(session_run), ROW(session_run_from), ROW(session_root),
     ROW(session_finish), ROW(session_finish_with_salt), ROW(session_copy), ROW(session_push_run), ROW(session_keep_hashes),
-    ROW(session_known_hashes), ROW(session_to_json), ROW(session_from_json),
+    ROW(session_known_hashes), ROW(session_to_json), ROW(session_from_json), ROW(hash_index_new), ROW(hash_index_insert),
 };
 
 static void make_calls(const struct call *calls, size_t count)

@@ -16,8 +16,8 @@
  * - No pointer may be null. Each must point to a correctly aligned object of its type. An array is passed with its length
  *   in elements, and must have at least that many. An array of length 0 may be null.
  * - No object that a call writes to may overlap another argument of the call. In particular, the two handles of a call
- *   must be two objects; only yurewha_subtree_equal may get one handle twice. No call reads the old value of an out parameter,
- *   unless it is a handle.
+ *   must be two objects; only yurewha_subtree_equal, yurewha_hash_tree_common_prefix and yurewha_hash_tree_common_suffix may
+ *   get one handle twice. No call reads the old value of an out parameter, unless it is a handle.
  * - Data is a `const void *` with a length in bytes, so that an array of any type is passed as it is.
  * - A text is an array of bytes with a length. It needs no 0 byte at its end, and the library writes none. A call writes a text to
  *   the beginning of `text`, which has room for `room` bytes.
@@ -25,8 +25,9 @@
  *
  * Handles
  *
- * - yurewha_subtree, yurewha_session, yurewha_hash_tree, yurewha_opened_range, yurewha_part and yurewha_reader are handles. An
- *   empty handle is {0} and owns nothing. Any other handle was written by a call of this library and owns memory.
+ * - yurewha_subtree, yurewha_session, yurewha_hash_tree, yurewha_opened_range, yurewha_part, yurewha_reader and
+ *   yurewha_hash_index are handles. An empty handle is {0} and owns nothing. Any other handle was written by a call of this
+ *   library and owns memory.
  * - A handle that a call writes to must be empty or own something. It must not be uninitialized. If the call succeeds, it
  *   frees what the handle owned before. If it fails, the handle keeps what it owned.
  * - A call leaves a handle as it was, unless its comment says otherwise.
@@ -185,6 +186,10 @@ typedef struct yurewha_part {
 typedef struct yurewha_reader {
     uint8_t *at;
 } yurewha_reader;
+
+typedef struct yurewha_hash_index {
+    uint8_t *at;
+} yurewha_hash_index;
 
 /* The lengths of a hash as hex text and as base64 text, and the greatest length of a status's text. */
 #define YUREWHA_HEX_LENGTH 64u
@@ -811,6 +816,24 @@ yurewha_status yurewha_hash_tree_proof(yurewha_hash_tree *tree, size_t first, si
                                        size_t level_room, yurewha_chunk *nodes, size_t node_room, size_t *level_count,
                                        size_t *node_count);
 
+/* Writes how many chunks two files have in common at the front: this many are the same in both hash trees, and no more
+ * are. The chunk with this number is the first in which they differ, unless a file ends there. The contract is for two
+ * handles, but a caller may pass one handle twice, and gets the number of its chunks. It allocates nothing. The time is
+ * proportional to `count`.
+ *   DONE          it is written
+ *   EMPTY_HANDLE  a handle is empty */
+YUREWHA_NODISCARD YUREWHA_NONNULL(1, 2, 3) YUREWHA_SINCE(1.1)
+yurewha_status yurewha_hash_tree_common_prefix(yurewha_hash_tree *first, yurewha_hash_tree *second, size_t *count);
+
+/* Writes how many chunks two files have in common at the end, but at most `most`. If `most` is how many chunks the shorter
+ * file has beside those in common at the front, which yurewha_hash_tree_common_prefix counts, then no chunk is counted
+ * twice. The contract is for two handles, but a caller may pass one handle twice. It allocates nothing. The time is
+ * proportional to `count`.
+ *   DONE          it is written
+ *   EMPTY_HANDLE  a handle is empty */
+YUREWHA_NODISCARD YUREWHA_NONNULL(1, 2, 4) YUREWHA_SINCE(1.1)
+yurewha_status yurewha_hash_tree_common_suffix(yurewha_hash_tree *first, yurewha_hash_tree *second, size_t most, size_t *count);
+
 /* Frees what the handle owns, and leaves it empty. */
 YUREWHA_NONNULL(1) YUREWHA_SINCE(1.1)
 void yurewha_hash_tree_free(yurewha_hash_tree *tree);
@@ -1110,6 +1133,43 @@ void yurewha_reader_free(yurewha_reader *reader);
 /* Frees what the handle owns, and leaves it empty. */
 YUREWHA_NONNULL(1) YUREWHA_SINCE(1.1)
 void yurewha_part_free(yurewha_part *part);
+
+/* ---- Indexes of hashes: a number for each of some hashes, such as where the chunk with this hash stands */
+
+/* Makes an index without hashes. The handle owns it.
+ *   DONE    it is made
+ *   MEMORY  an allocation failed */
+YUREWHA_NODISCARD YUREWHA_NONNULL(1) YUREWHA_SINCE(1.1)
+yurewha_status yurewha_hash_index_new(yurewha_hash_index *index);
+
+/* Gives each hash of a list the number beside it in `numbers`, unless the hash has one already: the number that came first
+ * stays, also among those of one call. `new_hashes` gets how many hashes had no number before, each counted once.
+ *   DONE          each hash has a number
+ *   EMPTY_HANDLE  if and only if the handle is empty
+ *   ARGUMENTS     if and only if there is an index, and the two lists have different lengths
+ *   MEMORY        an allocation failed */
+YUREWHA_NODISCARD YUREWHA_NONNULL(1, 6) YUREWHA_SINCE(1.1)
+yurewha_status yurewha_hash_index_insert(yurewha_hash_index *index, const yurewha_hash *hashes, size_t count,
+                                         const uint64_t *numbers, size_t number_count, size_t *new_hashes);
+
+/* Writes for each of some hashes 1 to `found` and its number to `numbers`, or 0 to both if the index has no number for it.
+ * It allocates nothing.
+ *   DONE          they are written
+ *   EMPTY_HANDLE  if and only if the handle is empty
+ *   ARGUMENTS     if and only if there is an index, and the three lists don't have the same length */
+YUREWHA_NODISCARD YUREWHA_NONNULL(1) YUREWHA_SINCE(1.1)
+yurewha_status yurewha_hash_index_find(yurewha_hash_index *index, const yurewha_hash *hashes, size_t count, uint8_t *found,
+                                       size_t found_count, uint64_t *numbers, size_t number_count);
+
+/* Writes how many hashes have a number. It allocates nothing.
+ *   DONE          it is written
+ *   EMPTY_HANDLE  the handle is empty */
+YUREWHA_NODISCARD YUREWHA_NONNULL(1, 2) YUREWHA_SINCE(1.1)
+yurewha_status yurewha_hash_index_len(yurewha_hash_index *index, size_t *count);
+
+/* Frees what the handle owns, and leaves it empty. */
+YUREWHA_NONNULL(1) YUREWHA_SINCE(1.1)
+void yurewha_hash_index_free(yurewha_hash_index *index);
 
 #ifdef __cplusplus
 }

@@ -679,6 +679,17 @@ public:
         return detail::written_lists<range_proof>(64, 1024,
                                                   [&](auto... rooms) { return yurewha_hash_tree_proof(&copy, first, end, rooms...); });
     }
+    // How many chunks this file and another one have in common at the front, and at the end, where `most` is the most that are counted.
+    [[nodiscard]] std::size_t common_prefix(const hash_tree &other) const
+    {
+        yurewha_hash_tree second = other.copied();
+        return ask<std::size_t>(yurewha_hash_tree_common_prefix, &second);
+    }
+    [[nodiscard]] std::size_t common_suffix(const hash_tree &other, std::size_t most) const
+    {
+        yurewha_hash_tree second = other.copied();
+        return ask<std::size_t>(yurewha_hash_tree_common_suffix, &second, most);
+    }
 };
 
 // A range proof that shows a file hash, or a root.
@@ -808,6 +819,35 @@ public:
     void keep_at_most(std::uint64_t most) { detail::check(yurewha_reader_keep_at_most(get(), most)); }
     // Moves the chunks of a part that were checked to the reader. Then the part is empty, unless this throws.
     void take(part &&from) { detail::check(yurewha_reader_take(get(), from.get())); }
+};
+
+// A number for each of some hashes: the one that came first.
+class hash_index : public detail::owner<yurewha_hash_index, yurewha_hash_index_free> {
+public:
+    hash_index() { detail::check(yurewha_hash_index_new(get())); }
+
+    // Gives each hash the number beside it, unless it has one. Returns how many had none.
+    std::size_t insert(view<hash> hashes, view<std::uint64_t> numbers)
+    {
+        std::size_t new_hashes = 0;
+        detail::check(yurewha_hash_index_insert(get(), hashes.data(), hashes.size(), numbers.data(), numbers.size(), &new_hashes));
+        return new_hashes;
+    }
+    // The number of each hash that has one.
+    [[nodiscard]] std::vector<std::optional<std::uint64_t>> find(view<hash> hashes) const
+    {
+        yurewha_hash_index copy = copied();
+        std::vector<std::uint8_t> found(hashes.size());
+        std::vector<std::uint64_t> numbers(hashes.size());
+        detail::check(yurewha_hash_index_find(&copy, hashes.data(), hashes.size(), found.data(), found.size(), numbers.data(),
+                                              numbers.size()));
+        std::vector<std::optional<std::uint64_t>> result(hashes.size());
+        for (std::size_t i = 0; i < result.size(); i++)
+            if (found[i] != 0)
+                result[i] = numbers[i];
+        return result;
+    }
+    [[nodiscard]] std::size_t len() const { return ask<std::size_t>(yurewha_hash_index_len); }
 };
 
 } // namespace yurewha

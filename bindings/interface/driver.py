@@ -13,7 +13,7 @@ TELLS_TEXT = "yurewha_processor_level"
 #: The calls that change their first handle or hasher. The others leave what they read unchanged.
 CHANGES_FIRST = ("yurewha_hasher_update", "yurewha_subtree_merge_into", "yurewha_subtree_merge_into_counted", "yurewha_session_put",
                  "yurewha_session_push_run", "yurewha_session_keep_hashes", "yurewha_reader_read", "yurewha_reader_keep_at_most",
-                 "yurewha_reader_take", "yurewha_part_check")
+                 "yurewha_reader_take", "yurewha_part_check", "yurewha_hash_index_insert")
 #: The calls that read their last handle, and those that empty it. Any other call that has one makes it.
 READS_LAST = ("yurewha_subtree_merge_into", "yurewha_session_push_run")
 EMPTIES_LAST = ("yurewha_reader_take",)

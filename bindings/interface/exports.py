@@ -24,6 +24,7 @@ STRUCTS = {
     "OpenedRangeHandle": "yurewha_opened_range",
     "PartHandle": "yurewha_part",
     "ReaderHandle": "yurewha_reader",
+    "HashIndexHandle": "yurewha_hash_index",
 }
 #: What C calls a parameter that has another name in the crate. In a contract, `length` and `result` mean something else.
 NAMES = {"room": "text", "text_len": "length", "level_len": "level_count", "node_len": "node_count", "byte_len": "byte_count", "keyed": "result"}

@@ -318,6 +318,11 @@ static void range_proofs()
     const yu::interval<std::uint64_t> place = tree->bytes_of(10, 12);
     MUST(place.first == 260 && place.end == place.first + 54 && data.substr(place.first, 2) == "10");
     MUST(tree->chunks_at(place.first, place.end) == yu::interval<std::size_t>{10, 12} && !tree->chunks_at(5, 5));
+    std::vector<yu::chunk> fewer = some(chunks, 0, 2000);
+    fewer.insert(fewer.end(), chunks.begin() + 2001, chunks.end());
+    const read_only<yu::hash_tree> without{yu::hash_tree(fewer)};
+    MUST(tree->common_prefix(*without) == 2000 && tree->common_suffix(*without, 9999) == 999 && tree->common_suffix(*without, 7) == 7);
+    MUST(tree->common_prefix(*tree) == 3000 && tree->common_suffix(*tree, 3001) == 3000);
     THROWS(YUREWHA_ARGUMENTS, tree->bytes_of(1, 1));
     THROWS(YUREWHA_ARGUMENTS, tree->proof(1, 1));
     // Lists and texts of more than the first room, too.
@@ -426,6 +431,25 @@ static void refusals()
     MUST(front == before && session.to_json() == text);
 }
 
+static void hash_indexes()
+{
+    const std::vector<yu::hash> hashes = {yu::random_from_seed(1), yu::random_from_seed(2), yu::random_from_seed(1)};
+    const std::vector<std::uint64_t> numbers = {10, UINT64_MAX, 30};
+    yu::hash_index index;
+    MUST(index.insert(hashes, numbers) == 2 && index.insert(hashes, numbers) == 0);
+    THROWS(YUREWHA_ARGUMENTS, index.insert(hashes, {}));
+    yu::hash_index moved = std::move(index);
+    THROWS(YUREWHA_EMPTY_HANDLE, index.len());
+    THROWS(YUREWHA_EMPTY_HANDLE, index.insert(hashes, numbers));
+    refuses = true;
+    THROWS(YUREWHA_MEMORY, moved.insert(std::vector<yu::hash>{yu::random_from_seed(3)}, std::vector<std::uint64_t>{1}));
+    refuses = false;
+    const read_only<yu::hash_index> kept(std::move(moved));
+    const std::vector<std::optional<std::uint64_t>> wanted = {UINT64_MAX, std::nullopt, 10};
+    MUST(kept->len() == 2 && kept->find({}).empty());
+    MUST(kept->find(std::vector<yu::hash>{hashes[1], yu::random_from_seed(3), hashes[0]}) == wanted);
+}
+
 int main()
 {
     if (yurewha_set_allocator(allocate, reallocate, release) != YUREWHA_DONE)
@@ -436,6 +460,7 @@ int main()
     subtrees();
     sessions();
     range_proofs();
+    hash_indexes();
     refusals();
     MUST(live == 0);
     std::printf("classes: %lu checks, %lu failed\n", checked, failed);

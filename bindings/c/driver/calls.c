@@ -405,6 +405,18 @@ static uint64_t call_hash_tree_proof(const struct argument *a)
         (size_t *)a[6].data);
 }
 
+static uint64_t call_hash_tree_common_prefix(const struct argument *a)
+{
+    return yurewha_hash_tree_common_prefix((yurewha_hash_tree *)a[0].data, (yurewha_hash_tree *)a[1].data,
+        (size_t *)a[2].data);
+}
+
+static uint64_t call_hash_tree_common_suffix(const struct argument *a)
+{
+    return yurewha_hash_tree_common_suffix((yurewha_hash_tree *)a[0].data, (yurewha_hash_tree *)a[1].data,
+        (size_t)a[2].number, (size_t *)a[3].data);
+}
+
 static uint64_t call_hash_tree_free(const struct argument *a)
 {
     yurewha_hash_tree_free((yurewha_hash_tree *)a[0].data);
@@ -568,6 +580,34 @@ static uint64_t call_part_free(const struct argument *a)
     return 0;
 }
 
+static uint64_t call_hash_index_new(const struct argument *a)
+{
+    return yurewha_hash_index_new((yurewha_hash_index *)a[0].data);
+}
+
+static uint64_t call_hash_index_insert(const struct argument *a)
+{
+    return yurewha_hash_index_insert((yurewha_hash_index *)a[0].data, (const yurewha_hash *)a[1].data, a[1].count,
+        (const uint64_t *)a[2].data, a[2].count, (size_t *)a[3].data);
+}
+
+static uint64_t call_hash_index_find(const struct argument *a)
+{
+    return yurewha_hash_index_find((yurewha_hash_index *)a[0].data, (const yurewha_hash *)a[1].data, a[1].count,
+        (uint8_t *)a[2].data, a[2].count, (uint64_t *)a[3].data, a[3].count);
+}
+
+static uint64_t call_hash_index_len(const struct argument *a)
+{
+    return yurewha_hash_index_len((yurewha_hash_index *)a[0].data, (size_t *)a[1].data);
+}
+
+static uint64_t call_hash_index_free(const struct argument *a)
+{
+    yurewha_hash_index_free((yurewha_hash_index *)a[0].data);
+    return 0;
+}
+
 const struct call calls[] = {
     {"version", call_version, STATUS, ASKS_NONE, false, 2, {{ROOM, BYTE}, {NEEDED, NUMBER}}},
     {"status_text", call_status_text, STATUS, ASKS_NONE, false, 3, {{GIVEN, NUMBER}, {ROOM, BYTE}, {NEEDED, NUMBER}}},
@@ -668,6 +708,10 @@ const struct call calls[] = {
         {GIVEN, NUMBER}, {OUT, NUMBER}, {OUT, NUMBER}}},
     {"hash_tree_proof", call_hash_tree_proof, STATUS, REFUSES, false, 7, {{READ, HASH_TREE}, {GIVEN, NUMBER},
         {GIVEN, NUMBER}, {ROOM, LEVEL}, {ROOM, CHUNK}, {NEEDED, NUMBER}, {NEEDED, NUMBER}}},
+    {"hash_tree_common_prefix", call_hash_tree_common_prefix, STATUS, ASKS_NONE, false, 3, {{READ, HASH_TREE},
+        {READ, HASH_TREE}, {OUT, NUMBER}}},
+    {"hash_tree_common_suffix", call_hash_tree_common_suffix, STATUS, ASKS_NONE, false, 4, {{READ, HASH_TREE},
+        {READ, HASH_TREE}, {GIVEN, NUMBER}, {OUT, NUMBER}}},
     {"hash_tree_free", call_hash_tree_free, NOTHING, ASKS_NONE, false, 1, {{FREED, HASH_TREE}}},
     {"range_proof_to_json", call_range_proof_to_json, STATUS, REFUSES, false, 4, {{LIST, LEVEL}, {LIST, CHUNK},
         {ROOM, BYTE}, {NEEDED, NUMBER}}},
@@ -714,6 +758,13 @@ const struct call calls[] = {
     {"part_checked", call_part_checked, STATUS, ASKS_NONE, false, 3, {{READ, PART}, {OUT, NUMBER}, {OUT, NUMBER}}},
     {"reader_free", call_reader_free, NOTHING, ASKS_NONE, false, 1, {{FREED, READER}}},
     {"part_free", call_part_free, NOTHING, ASKS_NONE, false, 1, {{FREED, PART}}},
+    {"hash_index_new", call_hash_index_new, STATUS, REFUSES, false, 1, {{MADE, HASH_INDEX}}},
+    {"hash_index_insert", call_hash_index_insert, STATUS, REFUSES, false, 4, {{CHANGED, HASH_INDEX}, {LIST, HASH},
+        {LIST, NUMBER}, {OUT, NUMBER}}},
+    {"hash_index_find", call_hash_index_find, STATUS, ASKS_NONE, false, 4, {{READ, HASH_INDEX}, {LIST, HASH},
+        {EXACT, BYTE}, {EXACT, NUMBER}}},
+    {"hash_index_len", call_hash_index_len, STATUS, ASKS_NONE, false, 2, {{READ, HASH_INDEX}, {OUT, NUMBER}}},
+    {"hash_index_free", call_hash_index_free, NOTHING, ASKS_NONE, false, 1, {{FREED, HASH_INDEX}}},
 };
 const size_t call_count = LENGTH(calls);
 

@@ -29,7 +29,7 @@ enum role {
 };
 
 /* Of what type it is, or its elements are. From SUBTREE on, these are handles. */
-enum type { BYTE, TRUTH, NUMBER, HASH, KEY, CHUNK, LEVEL, HASHER, SUBTREE, SESSION, HASH_TREE, OPENED_RANGE, PART, READER };
+enum type { BYTE, TRUTH, NUMBER, HASH, KEY, CHUNK, LEVEL, HASHER, SUBTREE, SESSION, HASH_TREE, OPENED_RANGE, PART, READER, HASH_INDEX };
 
 /* What a call returns. */
 enum answer { NOTHING, STATUS, SIGNED, COUNT };

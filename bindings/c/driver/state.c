@@ -111,6 +111,23 @@ static void tell_reader(yurewha_hasher *message, yurewha_reader *reader)
     }
 }
 
+/* What tells most of an index: how many hashes it has, and the numbers of those of the first seeds. */
+static void tell_hash_index(yurewha_hasher *message, yurewha_hash_index *index)
+{
+    enum { SEEDS = 64 };
+    yurewha_hash hashes[SEEDS];
+    uint8_t found[SEEDS];
+    uint64_t numbers[SEEDS];
+    size_t count = 0;
+    for (uint64_t seed = 0; seed < SEEDS; seed++)
+        yurewha_random_from_seed(seed, &hashes[seed]);
+    need(yurewha_hash_index_len(index, &count), "len");
+    need(yurewha_hash_index_find(index, hashes, SEEDS, found, SEEDS, numbers, SEEDS), "find");
+    add(message, &count, sizeof count);
+    add(message, found, sizeof found);
+    add(message, numbers, sizeof numbers);
+}
+
 void tell(yurewha_hasher *message, enum type type, void *object)
 {
     const bool is_empty = type >= SUBTREE && ((struct handle *)object)->at == NULL;
@@ -129,6 +146,8 @@ void tell(yurewha_hasher *message, enum type type, void *object)
         tell_opened_range(message, (yurewha_opened_range *)object);
     else if (type == PART)
         tell_part(message, (yurewha_part *)object);
-    else
+    else if (type == READER)
         tell_reader(message, (yurewha_reader *)object);
+    else
+        tell_hash_index(message, (yurewha_hash_index *)object);
 }

@@ -118,6 +118,10 @@ DECLARATIONS: Dict[str, Declaration] = {
     "yurewha_hash_tree_proof": (
         "yurewha_status",
         ("yurewha_hash_tree *", "size_t", "size_t", "yurewha_level *", "size_t", "yurewha_chunk *", "size_t", "size_t *", "size_t *")),
+    "yurewha_hash_tree_common_prefix": (
+        "yurewha_status", ("yurewha_hash_tree *", "yurewha_hash_tree *", "size_t *")),
+    "yurewha_hash_tree_common_suffix": (
+        "yurewha_status", ("yurewha_hash_tree *", "yurewha_hash_tree *", "size_t", "size_t *")),
     "yurewha_hash_tree_free": ("void", ("yurewha_hash_tree *",)),
     # Range proofs
     "yurewha_range_proof_to_json": (
@@ -174,6 +178,16 @@ DECLARATIONS: Dict[str, Declaration] = {
     "yurewha_part_checked": ("yurewha_status", ("yurewha_part *", "size_t *", "uint64_t *")),
     "yurewha_reader_free": ("void", ("yurewha_reader *",)),
     "yurewha_part_free": ("void", ("yurewha_part *",)),
+    # Indexes of hashes
+    "yurewha_hash_index_new": ("yurewha_status", ("yurewha_hash_index *",)),
+    "yurewha_hash_index_insert": (
+        "yurewha_status",
+        ("yurewha_hash_index *", "const yurewha_hash *", "size_t", "const uint64_t *", "size_t", "size_t *")),
+    "yurewha_hash_index_find": (
+        "yurewha_status",
+        ("yurewha_hash_index *", "const yurewha_hash *", "size_t", "uint8_t *", "size_t", "uint64_t *", "size_t")),
+    "yurewha_hash_index_len": ("yurewha_status", ("yurewha_hash_index *", "size_t *")),
+    "yurewha_hash_index_free": ("void", ("yurewha_hash_index *",)),
 }
 
 #: The statuses, by their names in the header.
@@ -216,6 +230,7 @@ MEMBERS: Dict[str, Tuple[Member, ...]] = {
     "yurewha_opened_range": (("at", "uint8_t *", 1),),
     "yurewha_part": (("at", "uint8_t *", 1),),
     "yurewha_reader": (("at", "uint8_t *", 1),),
+    "yurewha_hash_index": (("at", "uint8_t *", 1),),
 }
 
 #: The structs that calls use, and their sizes in bytes.
@@ -231,4 +246,5 @@ STRUCTS: Dict[str, int] = {
     "yurewha_opened_range": 8,
     "yurewha_part": 8,
     "yurewha_reader": 8,
+    "yurewha_hash_index": 8,
 }

@@ -93,6 +93,11 @@ pub struct yurewha_reader {
     pub at: *mut u8,
 }
 
+#[repr(C)]
+pub struct yurewha_hash_index {
+    pub at: *mut u8,
+}
+
 impl yurewha_hasher {
     // Room for one, which must be begun before use.
     pub const ROOM: Self = yurewha_hasher { state: [0; 256] };
@@ -140,6 +145,13 @@ impl Default for yurewha_reader {
     }
 }
 
+impl Default for yurewha_hash_index {
+    // The empty handle.
+    fn default() -> Self {
+        yurewha_hash_index { at: ptr::null_mut() }
+    }
+}
+
 const fn assert_layout<T>(size: usize, align: usize) {
     assert!(size_of::<T>() == size && align_of::<T>() == align);
 }
@@ -157,6 +169,7 @@ const _: () = {
     assert_layout::<yurewha_opened_range>(8, 8);
     assert_layout::<yurewha_part>(8, 8);
     assert_layout::<yurewha_reader>(8, 8);
+    assert_layout::<yurewha_hash_index>(8, 8);
 };
 
 extern "C" {
@@ -398,6 +411,17 @@ extern "C" {
         level_count: *mut usize,
         node_count: *mut usize,
     ) -> yurewha_status;
+    pub fn yurewha_hash_tree_common_prefix(
+        first: *mut yurewha_hash_tree,
+        second: *mut yurewha_hash_tree,
+        count: *mut usize,
+    ) -> yurewha_status;
+    pub fn yurewha_hash_tree_common_suffix(
+        first: *mut yurewha_hash_tree,
+        second: *mut yurewha_hash_tree,
+        most: usize,
+        count: *mut usize,
+    ) -> yurewha_status;
     pub fn yurewha_hash_tree_free(tree: *mut yurewha_hash_tree);
     pub fn yurewha_range_proof_to_json(
         levels: *const yurewha_level,
@@ -549,6 +573,26 @@ extern "C" {
     pub fn yurewha_part_checked(part: *mut yurewha_part, chunks: *mut usize, place: *mut u64) -> yurewha_status;
     pub fn yurewha_reader_free(reader: *mut yurewha_reader);
     pub fn yurewha_part_free(part: *mut yurewha_part);
+    pub fn yurewha_hash_index_new(index: *mut yurewha_hash_index) -> yurewha_status;
+    pub fn yurewha_hash_index_insert(
+        index: *mut yurewha_hash_index,
+        hashes: *const yurewha_hash,
+        count: usize,
+        numbers: *const u64,
+        number_count: usize,
+        new_hashes: *mut usize,
+    ) -> yurewha_status;
+    pub fn yurewha_hash_index_find(
+        index: *mut yurewha_hash_index,
+        hashes: *const yurewha_hash,
+        count: usize,
+        found: *mut u8,
+        found_count: usize,
+        numbers: *mut u64,
+        number_count: usize,
+    ) -> yurewha_status;
+    pub fn yurewha_hash_index_len(index: *mut yurewha_hash_index, count: *mut usize) -> yurewha_status;
+    pub fn yurewha_hash_index_free(index: *mut yurewha_hash_index);
 }
 
 #[cfg(test)]

@@ -1,4 +1,5 @@
 pub mod Checking
+pub mod Differing
 pub mod FlatProof
 pub mod ProofBytes
 pub mod ProofJson

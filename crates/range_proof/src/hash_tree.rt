@@ -2,9 +2,11 @@
 
 ghost use Rattle.std.specs.Prelude.{◌≡◌, ℕ, ◌+◌, ◌^◌, ◌<◌, ◌≤◌, ◌↔◌, ◌⊎◌, min, length, take, IfOk, IfErr, IfSome, IfNone, IsErrOf, SomeIff};
 ghost use Rattle.xet_roots.specs.Roots.{total_size, IsRoot, IsFileHash};
+ghost use Rattle.range_proof.specs.Differing.{IsCommonPrefix, IsCommonSuffix};
 ghost use Rattle.range_proof.specs.Proving.{Proves, IsRangeOfBytes};
 ghost use Rattle.range_proof.specs.Steps.Trees.{AreSidesOf};
 
+use crate::differing::{common_prefix, common_suffix};
 use crate::laws::{
     range_proofs_are_well_formed, range_proofs_name_places, range_proofs_show_the_file_hash,
     range_proofs_show_the_root,
@@ -180,6 +182,22 @@ impl<A: Allocator> HashTree<A> {
             return None;
         }
         Some((self.places[first], self.places[end]))
+    }
+
+    /// Returns how many chunks this file and another one have in common at the front. The chunk with this number is the
+    /// first in which they differ, unless a file ends there. It allocates nothing.
+    pub fn common_prefix<B: Allocator>(&self, other: &HashTree<B>) -> usize
+        ensures { IsCommonPrefix self.now other.now result }
+    {
+        common_prefix(self.chunks(), other.chunks())
+    }
+
+    /// Returns how many chunks this file and another one have in common at the end, but at most `most`. It allocates
+    /// nothing.
+    pub fn common_suffix<B: Allocator>(&self, other: &HashTree<B>, most: usize) -> usize
+        ensures { IsCommonSuffix self.now other.now most result }
+    {
+        common_suffix(self.chunks(), other.chunks(), most)
     }
 }
 

@@ -3,6 +3,7 @@
 #![tactic(auto)]
 
 mod bytes;
+mod differing;
 mod flat;
 pub mod hash_tree;
 mod json;

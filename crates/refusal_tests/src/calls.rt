@@ -5,6 +5,7 @@
 
 mod examples;
 mod hashes;
+mod indexes;
 mod large;
 mod lines;
 mod maps;
@@ -127,6 +128,7 @@ pub enum Call {
     VacantInsertEntry,
     SessionTryClone,
     KnownHashes,
+    IndexInsert,
     XorbHash,
     XorbHashOf,
     FileHash,
@@ -198,7 +200,7 @@ const OF_CHUNKS: [(Call, u64); 22] = [
 ];
 
 // The calls that have values of their own.
-const OF_OWN_VALUES: [Call; 12] = [
+const OF_OWN_VALUES: [Call; 13] = [
     Call::Hex,
     Call::Base64,
     Call::ToVec,
@@ -211,6 +213,7 @@ const OF_OWN_VALUES: [Call; 12] = [
     Call::MapTryClone,
     Call::SessionTryClone,
     Call::KnownHashes,
+    Call::IndexInsert,
 ];
 
 // The calls that fill a map.
@@ -252,6 +255,7 @@ fn attempt(
         Call::SessionTryClone | Call::KnownHashes => sessions::copy(
             rt, call, alloc, granted, memory,
         ),
+        Call::IndexInsert => indexes::insert(rt, alloc, granted, memory, 100),
         Call::XorbHash | Call::XorbHashOf | Call::FileHash | Call::FileHashWithSalt => {
             hashes::of_chunks(rt, call, alloc, granted, chunks)
         }

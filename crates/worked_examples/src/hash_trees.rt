@@ -1,7 +1,7 @@
-//! Calls on hash trees: where chunks are, and the hashes of their list.
+//! Calls on hash trees: where chunks are, the hashes of their list, and what two lists have in common.
 
-use crate::read::{list, range_of_list};
-use anyhow::Result;
+use crate::read::{list, number, range_of_list};
+use anyhow::{Context, Result};
 use range_proof::HashTree;
 use std::alloc::Global;
 
@@ -11,6 +11,8 @@ pub fn answer(alloc: Global, name: &str, arguments: &str) -> Result<Option<Strin
         "chunks_at" => chunks_at(alloc, arguments)?,
         "bytes_of" => bytes_of(alloc, arguments)?,
         "tree_hashes" => hashes(alloc, arguments)?,
+        "common_prefix" => common_prefix(alloc, arguments)?,
+        "common_suffix" => common_suffix(alloc, arguments)?,
         _ => return Ok(None),
     };
     Ok(Some(text))
@@ -41,4 +43,25 @@ fn hashes(alloc: Global, arguments: &str) -> Result<String> {
     let tree = HashTree::from_chunks(alloc, &list(alloc, arguments)?)?;
     let (root, file_hash) = (tree.root(), tree.file_hash(&[0; 32]));
     Ok(format!(in alloc; "{root} {file_hash} {}", tree.total_size())?)
+}
+
+// Reads two lists of chunks with `with` between them, and returns the tree of each.
+fn two_trees(alloc: Global, text: &str) -> Result<(HashTree, HashTree)> {
+    let (first, second) = text.split_once(" with ").context("no second list")?;
+    let first = HashTree::from_chunks(alloc, &list(alloc, first)?)?;
+    let second = HashTree::from_chunks(alloc, &list(alloc, second)?)?;
+    Ok((first, second))
+}
+
+fn common_prefix(alloc: Global, arguments: &str) -> Result<String> {
+    let (first, second) = two_trees(alloc, arguments)?;
+    Ok(first.common_prefix(&second).to_string(alloc)?)
+}
+
+// The first number is how many chunks are counted at most.
+fn common_suffix(alloc: Global, arguments: &str) -> Result<String> {
+    let (most, lists) = arguments.split_once(" of ").context("no lists")?;
+    let (first, second) = two_trees(alloc, lists)?;
+    let count = first.common_suffix(&second, number(most)? as usize);
+    Ok(count.to_string(alloc)?)
 }

@@ -2,8 +2,8 @@
 //! empty ones, are headings and comments.
 
 use crate::{
-    groups, hash_trees, hashes, maps, merges, messages, openings, programs, range_proofs, roots,
-    sessions, subtrees,
+    groups, hash_trees, hashes, indexes, maps, merges, messages, openings, programs, range_proofs,
+    roots, sessions, subtrees,
 };
 use anyhow::{Context, Result};
 use std::alloc::{AllocError, Global};
@@ -43,7 +43,7 @@ fn answer(alloc: Global, call: &str) -> Result<String> {
     answer_on_lists(alloc, name, arguments)?.context("no such call")
 }
 
-// Makes a call on messages, hashes, maps, sessions or the programs.
+// Makes a call on messages, hashes, maps, indexes, sessions or the programs.
 fn answer_on_values(alloc: Global, name: &str, arguments: &str) -> Result<Option<String>> {
     if let Some(text) = messages::answer(alloc, name, arguments)? {
         return Ok(Some(text));
@@ -52,6 +52,9 @@ fn answer_on_values(alloc: Global, name: &str, arguments: &str) -> Result<Option
         return Ok(Some(text));
     }
     if let Some(text) = maps::answer(alloc, name, arguments)? {
+        return Ok(Some(text));
+    }
+    if let Some(text) = indexes::answer(alloc, name, arguments)? {
         return Ok(Some(text));
     }
     if let Some(text) = sessions::answer(alloc, name, arguments)? {

@@ -5,6 +5,7 @@
 mod groups;
 mod hash_trees;
 mod hashes;
+mod indexes;
 mod lines;
 mod maps;
 mod merges;

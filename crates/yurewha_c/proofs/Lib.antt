@@ -6,6 +6,7 @@ pub mod FlatProofs
 pub mod FactCalls
 pub mod HandleLists
 pub mod Handles
+pub mod HashPairs
 pub mod HandleTypes
 pub mod HandleWalks
 pub mod SessionStatuses

@@ -2,6 +2,7 @@
 use denote.RattleType.{RattleType}
 use Rattle.std.specs.contracts.alloc.Global as global
 use Rattle.std.specs.contracts.impls.GlobalAllocator.TheImpl.{ghosts}
+use Rattle.hash_numbers.specs.contracts.index.HashIndex as hash_index
 use Rattle.range_proof.specs.contracts.hash_tree.HashTree as hash_tree
 use Rattle.range_proof.specs.contracts.opened_range.OpenedRange as opened_range
 use Rattle.xet_merkle.specs.contracts.merkle_hash_subtree.subtree.MerkleHashSubtree as subtree
@@ -26,3 +27,6 @@ part_row = part.the_row global.the_row ghosts
 
 abbrev pub reader_row : RattleType
 reader_row = reader.the_row global.the_row ghosts
+
+abbrev pub hash_index_row : RattleType
+hash_index_row = hash_index.the_row global.the_row ghosts

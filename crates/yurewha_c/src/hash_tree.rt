@@ -1,11 +1,12 @@
 //! Hash trees: made from chunks, read, and freed, and the range proofs that they make.
 
 ghost use Rattle.std.specs.Prelude.{◌≡◌, ◌≢◌, ◌⊎◌, ◌↔◌, ◌^◌, ◌<◌, ◌≤◌, min, None, Some, IsSomeAnd, length, take};
+ghost use Rattle.range_proof.specs.Differing.{IsCommonPrefix, IsCommonSuffix};
 ghost use Rattle.range_proof.specs.Proving.{Proves, IsRangeOfBytes};
 ghost use Rattle.range_proof.specs.RangeProof.{Proof};
 ghost use Rattle.xet_roots.specs.Roots.{total_size, IsRoot, IsFileHash};
 ghost use Rattle.yurewha_c.specs.Chunks.{nodes_of};
-ghost use Rattle.yurewha_c.specs.Handles.{Reads};
+ghost use Rattle.yurewha_c.specs.Handles.{Reads, ReadsBoth};
 ghost use Rattle.yurewha_c.specs.ProofLists.{WritesProof};
 
 use crate::chunks::{Chunk, nodes_of, sizes_fit};
@@ -261,6 +262,87 @@ pub extern "C" fn yurewha_hash_tree_proof(
         Ok(proof) => write_proof(&proof, levels, nodes, level_len, node_len),
         Err(error) => status_of(error),
     }
+}
+
+/// Writes how many chunks two files have in common at the front: this many are the same in both hash trees, and no more
+/// are. The chunk with this number is the first in which they differ, unless a file ends there. The contract is for two
+/// handles, but a caller may pass one handle twice, and gets the number of its chunks. It allocates nothing. The time is
+/// proportional to `count`.
+///
+/// - `DONE`: it is written.
+/// - `EMPTY_HANDLE`: a handle is empty.
+///
+/// Since 1.1.
+#[unsafe(no_mangle)]
+pub extern "C" fn yurewha_hash_tree_common_prefix(
+    alloc: Global,
+    first: &mut HashTreeHandle,
+    second: &mut HashTreeHandle,
+    count: &mut usize,
+) -> u32
+    ensures prefix { ReadsBoth first.old.value second.old.value result (count.new ≡ count.old)
+        (λ a b. IsCommonPrefix a b count.new) }
+    ensures first_kept { first.new.value ≡ first.old.value }
+    ensures second_kept { second.new.value ≡ second.old.value }
+{
+    if second.is_empty(alloc) {
+        return EMPTY_HANDLE;
+    }
+    let Some(one) = first.take(alloc) else {
+        return EMPTY_HANDLE;
+    };
+    *count = match second.take(alloc) {
+        Some(other) => {
+            let found = one.common_prefix(&other);
+            second.put(other);
+            found
+        }
+        // The second handle wasn't empty before the first was taken out, so they are the same.
+        None => one.num_chunks(),
+    };
+    first.put(one);
+    DONE
+}
+
+/// Writes how many chunks two files have in common at the end, but at most `most`. If `most` is how many chunks the
+/// shorter file has beside those in common at the front, which `yurewha_hash_tree_common_prefix` counts, then no chunk
+/// is counted twice. The contract is for two handles, but a caller may pass one handle twice. It allocates nothing. The
+/// time is proportional to `count`.
+///
+/// - `DONE`: it is written.
+/// - `EMPTY_HANDLE`: a handle is empty.
+///
+/// Since 1.1.
+#[unsafe(no_mangle)]
+pub extern "C" fn yurewha_hash_tree_common_suffix(
+    alloc: Global,
+    first: &mut HashTreeHandle,
+    second: &mut HashTreeHandle,
+    most: usize,
+    count: &mut usize,
+) -> u32
+    ensures suffix { ReadsBoth first.old.value second.old.value result (count.new ≡ count.old)
+        (λ a b. IsCommonSuffix a b most count.new) }
+    ensures first_kept { first.new.value ≡ first.old.value }
+    ensures second_kept { second.new.value ≡ second.old.value }
+{
+    if second.is_empty(alloc) {
+        return EMPTY_HANDLE;
+    }
+    let Some(one) = first.take(alloc) else {
+        return EMPTY_HANDLE;
+    };
+    *count = match second.take(alloc) {
+        Some(other) => {
+            let found = one.common_suffix(&other, most);
+            second.put(other);
+            found
+        }
+        // The second handle wasn't empty before the first was taken out, so they are the same.
+        None => one.num_chunks().min(most),
+    };
+    first.put(one);
+    DONE
 }
 
 /// Frees what the handle owns, and leaves it empty.

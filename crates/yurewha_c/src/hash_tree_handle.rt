@@ -1,6 +1,6 @@
 //! A handle of a hash tree. What owns memory can't be passed to C, so its box is passed as a pointer.
 
-ghost use Rattle.std.specs.Prelude.{◌≡◌, ◌≢◌, ◌⊎◌, List, Option, Some, None, option_map};
+ghost use Rattle.std.specs.Prelude.{◌≡◌, ◌≢◌, ◌⊎◌, ◌↔◌, List, Option, Some, None, IsTrue, option_map};
 ghost use Rattle.xet_roots.specs.Groups.{Node};
 ghost use Rattle.yurewha_c.specs.Owned.{owns_hash_tree, hash_tree_code};
 
@@ -80,6 +80,20 @@ impl HashTreeHandle {
         let new = HashTreeHandle::of_parts(Parts::of(tree));
         if let Some(old) = replace(self, new).into_parts() {
             drop(old.into_box());
+        }
+    }
+
+    // Returns whether the handle is empty.
+    pub(crate) fn is_empty(&mut self, alloc: Global) -> bool
+        ensures empty { IsTrue result ↔ (self.old.value ≡ None) }
+        ensures kept { self.new.value ≡ self.old.value }
+    {
+        match self.take(alloc) {
+            Some(tree) => {
+                self.put(tree);
+                false
+            }
+            None => true,
         }
     }
 

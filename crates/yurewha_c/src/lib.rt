@@ -3,7 +3,8 @@
 //!
 //! A slice is passed as a pointer and a length, a reference as a pointer, and a `Global` as nothing. No export has a
 //! precondition: each wrong argument has a [`status`]. Whatever owns memory is passed as a [`subtree_handle`], a
-//! [`session_handle`], a [`hash_tree_handle`], an [`opened_range_handle`], a [`part_handle`] or a [`reader_handle`].
+//! [`session_handle`], a [`hash_tree_handle`], an [`opened_range_handle`], a [`part_handle`], a [`reader_handle`] or a
+//! [`hash_index_handle`].
 //!
 //! The comment of an export lists its statuses, and ends with the version that first had it. It doesn't repeat the header's
 //! rules for all calls. A call that doesn't return `DONE` changes and writes nothing, except for the lengths that it writes
@@ -14,6 +15,8 @@
 mod chunks;
 mod data_hashes;
 mod hash;
+mod hash_index;
+mod hash_index_handle;
 mod hash_text;
 mod hash_tree;
 mod hash_tree_handle;

@@ -1,0 +1,27 @@
+-- Hashes and their numbers, in lists side by side, one more of each.
+use Rattle.std.proofs.Common.{arith, ◌≡◌, ◌+◌, ◌<◌, ◌≤◌, ℕ, zero, suc, List, [], ◌∷◌, ◌++◌, length, take, get_or, refl, ap, ◌∙◌, add-one}
+use Rattle.std.proofs.lemmas.List.{length-map, take_all}
+use Rattle.std.proofs.lemmas.Slice.Zip.{length-zip}
+use Rattle.hash_numbers.specs.Index.{Entry}
+use Rattle.yurewha_c.specs.HashNumbers.{pairs_of}
+use Rattle.yurewha_c.specs.Pieces.{words_of}
+use Rattle.yurewha_c.specs.declared.hash.Hash.{Hash}
+
+pairs-suc : (hashes : List Hash) (numbers : List ℕ) (i : ℕ) (d : Hash) (n : ℕ) → i < length hashes → i < length numbers
+    → take (suc i) (pairs_of hashes numbers) ≡ take i (pairs_of hashes numbers) ++ ((get_or hashes i d).words, get_or numbers i n) ∷ []
+pairs-suc [] numbers i d n h k = absurd (omega (arith, h))
+pairs-suc (hash ∷ hashes) [] i d n h k = absurd (omega (arith, k))
+pairs-suc (hash ∷ hashes) (number ∷ numbers) zero d n h k = refl
+pairs-suc (hash ∷ hashes) (number ∷ numbers) (suc i) d n h k =
+    ap (λ (rest : List Entry). (hash.words, number) ∷ rest) (pairs-suc hashes numbers i d n (omega (arith, h)) (omega (arith, k)))
+
+-- one more pair
+pub pairs-more : (hashes : List Hash) (numbers : List ℕ) (i : ℕ) (d : Hash) (n : ℕ) → i < length hashes → i < length numbers
+    → take (i + 1) (pairs_of hashes numbers) ≡ take i (pairs_of hashes numbers) ++ ((get_or hashes i d).words, get_or numbers i n) ∷ []
+pairs-more hashes numbers i d n h k = ap (λ (count : ℕ). take count (pairs_of hashes numbers)) (add-one i) ∙ pairs-suc hashes numbers i d n h k
+
+-- all pairs
+pub pairs-all : (hashes : List Hash) (numbers : List ℕ) (i : ℕ) → length hashes ≤ i → take i (pairs_of hashes numbers) ≡ pairs_of hashes numbers
+pairs-all hashes numbers i past =
+    let count : length (pairs_of hashes numbers) ≤ i = omega (arith, length-zip (words_of hashes) numbers, length-map hashes (λ (hash : Hash). hash.words)) in
+    take_all i (pairs_of hashes numbers) count
