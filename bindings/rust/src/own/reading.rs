@@ -2,10 +2,10 @@
 
 use super::Node;
 use crate::merklehash::compute_data_hash;
+use std::collections::VecDeque;
 use std::io::{self, ErrorKind, Read};
 use std::num::NonZeroUsize;
-use std::sync::mpsc::{sync_channel, Receiver};
-use std::sync::{Mutex, MutexGuard, PoisonError};
+use std::sync::{Condvar, Mutex, MutexGuard, PoisonError};
 use std::thread;
 
 // The name of the threads, as debuggers show it.
@@ -23,8 +23,84 @@ const MOST_KEPT: usize = 1 << 20;
 // The number of a chunk, a buffer that begins with its data, and its length.
 type Chunk = (usize, Vec<u8>, usize);
 
-// Buffers that no chunk needs any more. The last one is the likeliest to be in a cache.
-type Spare = Mutex<Vec<Vec<u8>>>;
+// The chunks between the thread that reads and those that hash. All is under one lock, and not in a channel, because threads that take
+// turns at a channel's end wake each other for each chunk.
+#[derive(Default)]
+struct Queue {
+    waiting: Mutex<Waiting>,
+    has_come: Condvar,
+    has_gone: Condvar,
+}
+
+#[derive(Default)]
+struct Waiting {
+    chunks: VecDeque<Chunk>,
+    // Buffers that no chunk needs any more. The last one is the likeliest to be in a cache.
+    spare: Vec<Vec<u8>>,
+    is_closed: bool,
+}
+
+impl Queue {
+    // Puts a chunk in as soon as fewer than `most` wait.
+    fn put(&self, chunk: Chunk, most: usize) {
+        let mut waiting = self.locked();
+        while waiting.chunks.len() >= most {
+            waiting = unpoisoned(self.has_gone.wait(waiting));
+        }
+        waiting.chunks.push_back(chunk);
+        drop(waiting);
+        self.has_come.notify_one();
+    }
+
+    // Takes the next chunk out as soon as there is one, or returns `None` once the queue is closed.
+    fn next(&self) -> Option<Chunk> {
+        let mut waiting = self.locked();
+        loop {
+            if let Some(chunk) = waiting.chunks.pop_front() {
+                drop(waiting);
+                self.has_gone.notify_one();
+                return Some(chunk);
+            }
+            if waiting.is_closed {
+                return None;
+            }
+            waiting = unpoisoned(self.has_come.wait(waiting));
+        }
+    }
+
+    // Keeps a buffer for a later chunk, unless it is long or there is no memory for that.
+    fn keep(&self, buffer: Vec<u8>) {
+        if buffer.capacity() <= MOST_KEPT {
+            let spare = &mut self.locked().spare;
+            if spare.try_reserve(1).is_ok() {
+                spare.push(buffer);
+            }
+        }
+    }
+
+    fn buffer(&self) -> Vec<u8> {
+        self.locked().spare.pop().unwrap_or_default()
+    }
+
+    fn locked(&self) -> MutexGuard<'_, Waiting> {
+        unpoisoned(self.waiting.lock())
+    }
+}
+
+// Closes a queue at its end, also after an error or a panic of the reader, so that no thread waits for ever.
+struct Closing<'a>(&'a Queue);
+
+impl Drop for Closing<'_> {
+    fn drop(&mut self) {
+        self.0.locked().is_closed = true;
+        self.0.has_come.notify_all();
+    }
+}
+
+// What a lock or a wait returns. No thread leaves what is locked half changed.
+fn unpoisoned<T>(locked: Result<T, PoisonError<T>>) -> T {
+    locked.unwrap_or_else(PoisonError::into_inner)
+}
 
 /// Reads chunks of these lengths, one after another, and hashes them on the given number of threads, but on no more threads
 /// than there are chunks. The calling thread reads meanwhile, at most one chunk ahead for each thread. What it returns is in the order of the reader, and
@@ -57,20 +133,19 @@ pub fn hash_chunks(
     lengths: impl IntoIterator<Item = usize>,
     threads: NonZeroUsize,
 ) -> io::Result<Vec<Node>> {
-    let (chunks, taken) = sync_channel(threads.get().min(MOST_WAITING));
-    let (taken, spare) = (Mutex::new(taken), Spare::default());
+    let (queue, most) = (Queue::default(), threads.get().min(MOST_WAITING));
     let mut hashed = thread::scope(|scope| {
+        let closing = Closing(&queue);
         let named = || thread::Builder::new().name(NAME.to_owned());
         let mut workers = Vec::new();
-        for chunk in chunks_of(reader, lengths, &spare) {
+        for chunk in chunks_of(reader, lengths, &queue) {
             let chunk = chunk?;
             if workers.len() < threads.get() {
-                workers.push(named().spawn_scoped(scope, || hash_each(&taken, &spare))?);
+                workers.push(named().spawn_scoped(scope, || hash_each(&queue))?);
             }
-            chunks.send(chunk).expect("a thread takes chunks until there are none");
+            queue.put(chunk, most);
         }
-        // Threads end when the channel is closed, as it also is after an error.
-        drop(chunks);
+        drop(closing);
         let parts = workers
             .into_iter()
             .map(|worker| worker.join().expect("hashing panics nowhere"));
@@ -84,10 +159,10 @@ pub fn hash_chunks(
 fn chunks_of<'a>(
     mut reader: impl Read + 'a,
     lengths: impl IntoIterator<Item = usize> + 'a,
-    spare: &'a Spare,
+    queue: &'a Queue,
 ) -> impl Iterator<Item = io::Result<Chunk>> + 'a {
     let read = move |(number, length)| {
-        let mut data = locked(spare).pop().unwrap_or_default();
+        let mut data = queue.buffer();
         if filled(&mut reader, &mut data, length)? < length {
             let end = format!("the data ends before chunk {number} is whole");
             return Err(io::Error::new(ErrorKind::UnexpectedEof, end));
@@ -126,26 +201,12 @@ fn filled(reader: &mut impl Read, data: &mut Vec<u8>, length: usize) -> io::Resu
     Ok(count)
 }
 
-// Hashes chunks until the channel is closed.
-fn hash_each(taken: &Mutex<Receiver<Chunk>>, spare: &Spare) -> Vec<(usize, Node)> {
+// Hashes chunks until the queue is closed.
+fn hash_each(queue: &Queue) -> Vec<(usize, Node)> {
     let mut hashed = Vec::new();
-    loop {
-        // In a `while let`, the lock would be held while the chunk is hashed.
-        let next = locked(taken).recv();
-        let Ok((number, data, length)) = next else {
-            return hashed;
-        };
+    while let Some((number, data, length)) = queue.next() {
         hashed.push((number, (compute_data_hash(&data[..length]), length as u64)));
-        if data.capacity() <= MOST_KEPT {
-            let mut kept = locked(spare);
-            if kept.try_reserve(1).is_ok() {
-                kept.push(data);
-            }
-        }
+        queue.keep(data);
     }
-}
-
-// What a lock is for. No thread leaves it half changed.
-fn locked<T>(of: &Mutex<T>) -> MutexGuard<'_, T> {
-    of.lock().unwrap_or_else(PoisonError::into_inner)
+    hashed
 }

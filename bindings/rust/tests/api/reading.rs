@@ -129,3 +129,16 @@ fn a_reader_that_ends_or_breaks_is_an_error() {
         assert_eq!(error.kind(), ErrorKind::BrokenPipe);
     }
 }
+
+#[test]
+fn a_reader_that_panics_leaves_no_thread_waiting() {
+    struct Panicking;
+    impl Read for Panicking {
+        fn read(&mut self, _: &mut [u8]) -> io::Result<usize> {
+            panic!("by a reader")
+        }
+    }
+    let reader = (&b"a chunk"[..]).chain(Panicking);
+    let caught = std::panic::catch_unwind(|| hash_chunks(reader, [7, 7], threads(2)));
+    assert_eq!(caught.unwrap_err().downcast_ref(), Some(&"by a reader"));
+}
