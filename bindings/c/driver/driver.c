@@ -357,12 +357,15 @@ static void try_empties(void)
     }
 }
 
-/* A session that knows no hashes yet may keep rooms for some that it got before it was refused more. They are freed with it. */
+/* A session that knows no hashes yet, or an index without hashes, may keep rooms for some that it got before it was refused more. They
+ * are freed with it. */
 static bool may_keep_rooms(void)
 {
     size_t hashes = 1;
     if (role_of(0) == CHANGED && type_of(0) == SESSION)
         (void)!yurewha_session_num_known_hashes((yurewha_session *)line.arguments[0].data, &hashes);
+    if (role_of(0) == CHANGED && type_of(0) == HASH_INDEX)
+        (void)!yurewha_hash_index_len((yurewha_hash_index *)line.arguments[0].data, &hashes);
     return hashes == 0;
 }
 
