@@ -1,10 +1,12 @@
 //! An index of hashes: a number for each of some hashes.
 
-ghost use Rattle.std.specs.Prelude.{◌≡◌, ◌++◌, [], length, IfOk, OnErr, OnOk};
-ghost use Rattle.hash_numbers.specs.Index.{number_of, AreSame, Inserts, IsIndex, SameNumbers};
+ghost use Rattle.std.specs.Prelude.{◌≡◌, ◌++◌, [], length, ℕ, IfOk, OnErr, OnOk};
+ghost use Rattle.std.specs.Map.Iter.{ShowsInOrder, deref_pair};
+ghost use Rattle.hash_numbers.specs.Index.{number_of, AreSame, Hash, Inserts, IsIndex, SameNumbers};
 ghost use Rattle.hash_numbers.specs.Steps.Removing.{IsWithout};
 
 use std::alloc::{AllocError, Allocator, Global};
+use std::collections::hash_map::Iter;
 use std::marker::Model;
 use xet_hash::data_hash::MerkleHash;
 use xet_hash::passthrough_hashmap::PassThroughHashMap;
@@ -70,6 +72,15 @@ impl<A: Allocator + Clone> HashIndex<A> {
         ensures index { IsIndex self.now }
     {
         self.map.len()
+    }
+
+    /// Returns an iterator over the entries, each a hash and its number, in no particular order. It allocates nothing.
+    pub fn iter(&self) -> Iter<'_, MerkleHash, u64>
+        ensures entries { result ≡ self.now }
+        ensures runs { ShowsInOrder (deref_pair {K = Hash} {X = ℕ}) }
+        ensures index { IsIndex self.now }
+    {
+        self.map.iter()
     }
 }
 
