@@ -1161,6 +1161,15 @@ YUREWHA_NODISCARD YUREWHA_NONNULL(1) YUREWHA_SINCE(1.1)
 yurewha_status yurewha_hash_index_find(yurewha_hash_index *index, const yurewha_hash *hashes, size_t count, uint8_t *found,
                                        size_t found_count, uint64_t *numbers, size_t number_count);
 
+/* Writes all hashes that have a number, each once, in no particular order, and beside each its number. It allocates
+ * nothing.
+ *   DONE          they are written
+ *   EMPTY_HANDLE  if and only if the handle is empty
+ *   ARGUMENTS     if and only if there is an index, and the length of a list isn't the number of its hashes */
+YUREWHA_NODISCARD YUREWHA_NONNULL(1) YUREWHA_SINCE(1.1)
+yurewha_status yurewha_hash_index_entries(yurewha_hash_index *index, yurewha_hash *hashes, size_t count, uint64_t *numbers,
+                                          size_t number_count);
+
 /* Writes how many hashes have a number. It allocates nothing.
  *   DONE          it is written
  *   EMPTY_HANDLE  the handle is empty */

@@ -847,6 +847,18 @@ public:
                 result[i] = numbers[i];
         return result;
     }
+    // Each hash that has a number, with it.
+    [[nodiscard]] std::vector<std::pair<hash, std::uint64_t>> entries() const
+    {
+        yurewha_hash_index copy = copied();
+        std::vector<hash> hashes(len());
+        std::vector<std::uint64_t> numbers(hashes.size());
+        detail::check(yurewha_hash_index_entries(&copy, hashes.data(), hashes.size(), numbers.data(), numbers.size()));
+        std::vector<std::pair<hash, std::uint64_t>> result(hashes.size());
+        for (std::size_t i = 0; i < result.size(); i++)
+            result[i] = {hashes[i], numbers[i]};
+        return result;
+    }
     [[nodiscard]] std::size_t len() const { return ask<std::size_t>(yurewha_hash_index_len); }
 };
 

@@ -440,6 +440,7 @@ static void hash_indexes()
     THROWS(YUREWHA_ARGUMENTS, index.insert(hashes, {}));
     yu::hash_index moved = std::move(index);
     THROWS(YUREWHA_EMPTY_HANDLE, index.len());
+    THROWS(YUREWHA_EMPTY_HANDLE, index.entries());
     THROWS(YUREWHA_EMPTY_HANDLE, index.insert(hashes, numbers));
     refuses = true;
     THROWS(YUREWHA_MEMORY, moved.insert(std::vector<yu::hash>{yu::random_from_seed(3)}, std::vector<std::uint64_t>{1}));
@@ -448,6 +449,9 @@ static void hash_indexes()
     const std::vector<std::optional<std::uint64_t>> wanted = {UINT64_MAX, std::nullopt, 10};
     MUST(kept->len() == 2 && kept->find({}).empty());
     MUST(kept->find(std::vector<yu::hash>{hashes[1], yu::random_from_seed(3), hashes[0]}) == wanted);
+    const std::vector<std::pair<yu::hash, std::uint64_t>> entries = kept->entries();
+    const std::set<std::pair<yu::hash, std::uint64_t>> all = {{hashes[0], 10}, {hashes[1], UINT64_MAX}};
+    MUST(entries.size() == 2 && std::set(entries.begin(), entries.end()) == all && yu::hash_index().entries().empty());
 }
 
 int main()

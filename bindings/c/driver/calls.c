@@ -597,6 +597,12 @@ static uint64_t call_hash_index_find(const struct argument *a)
         (uint8_t *)a[2].data, a[2].count, (uint64_t *)a[3].data, a[3].count);
 }
 
+static uint64_t call_hash_index_entries(const struct argument *a)
+{
+    return yurewha_hash_index_entries((yurewha_hash_index *)a[0].data, (yurewha_hash *)a[1].data, a[1].count,
+        (uint64_t *)a[2].data, a[2].count);
+}
+
 static uint64_t call_hash_index_len(const struct argument *a)
 {
     return yurewha_hash_index_len((yurewha_hash_index *)a[0].data, (size_t *)a[1].data);
@@ -763,6 +769,8 @@ const struct call calls[] = {
         {LIST, NUMBER}, {OUT, NUMBER}}},
     {"hash_index_find", call_hash_index_find, STATUS, ASKS_NONE, false, 4, {{READ, HASH_INDEX}, {LIST, HASH},
         {EXACT, BYTE}, {EXACT, NUMBER}}},
+    {"hash_index_entries", call_hash_index_entries, STATUS, ASKS_NONE, false, 3, {{READ, HASH_INDEX}, {EXACT, HASH},
+        {EXACT, NUMBER}}},
     {"hash_index_len", call_hash_index_len, STATUS, ASKS_NONE, false, 2, {{READ, HASH_INDEX}, {OUT, NUMBER}}},
     {"hash_index_free", call_hash_index_free, NOTHING, ASKS_NONE, false, 1, {{FREED, HASH_INDEX}}},
 };

@@ -186,6 +186,8 @@ DECLARATIONS: Dict[str, Declaration] = {
     "yurewha_hash_index_find": (
         "yurewha_status",
         ("yurewha_hash_index *", "const yurewha_hash *", "size_t", "uint8_t *", "size_t", "uint64_t *", "size_t")),
+    "yurewha_hash_index_entries": (
+        "yurewha_status", ("yurewha_hash_index *", "yurewha_hash *", "size_t", "uint64_t *", "size_t")),
     "yurewha_hash_index_len": ("yurewha_status", ("yurewha_hash_index *", "size_t *")),
     "yurewha_hash_index_free": ("void", ("yurewha_hash_index *",)),
 }

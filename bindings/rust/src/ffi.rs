@@ -591,6 +591,13 @@ extern "C" {
         numbers: *mut u64,
         number_count: usize,
     ) -> yurewha_status;
+    pub fn yurewha_hash_index_entries(
+        index: *mut yurewha_hash_index,
+        hashes: *mut yurewha_hash,
+        count: usize,
+        numbers: *mut u64,
+        number_count: usize,
+    ) -> yurewha_status;
     pub fn yurewha_hash_index_len(index: *mut yurewha_hash_index, count: *mut usize) -> yurewha_status;
     pub fn yurewha_hash_index_free(index: *mut yurewha_hash_index);
 }

@@ -1,6 +1,7 @@
 -- Hashes and their numbers, in lists side by side, one more of each.
-use Rattle.std.proofs.Common.{arith, ◌≡◌, ◌+◌, ◌<◌, ◌≤◌, ℕ, zero, suc, List, [], ◌∷◌, ◌++◌, length, take, get_or, refl, ap, ◌∙◌, add-one}
-use Rattle.std.proofs.lemmas.List.{length-map, take_all}
+use Rattle.std.proofs.Common.{arith, ◌≡◌, ◌+◌, ◌<◌, ◌≤◌, ℕ, zero, suc, List, [], ◌∷◌, ◌++◌, length, take, get_or, refl, ap, ◌∙◌, add-one, append_assoc, slice_set}
+use Rattle.std.proofs.lemmas.Grind.{take-set_at}
+use Rattle.std.proofs.lemmas.List.{length-map, length-take, take_all}
 use Rattle.std.proofs.lemmas.Slice.Zip.{length-zip}
 use Rattle.hash_numbers.specs.Index.{Entry}
 use Rattle.yurewha_c.specs.HashNumbers.{pairs_of}
@@ -25,3 +26,23 @@ pub pairs-all : (hashes : List Hash) (numbers : List ℕ) (i : ℕ) → length h
 pairs-all hashes numbers i past =
     let count : length (pairs_of hashes numbers) ≤ i = omega (arith, length-zip (words_of hashes) numbers, length-map hashes (λ (hash : Hash). hash.words)) in
     take_all i (pairs_of hashes numbers) count
+
+-- one more hash and one more number
+pairs-push : (hashes : List Hash) (numbers : List ℕ) (hash : Hash) (number : ℕ) → length numbers ≡ length hashes
+    → pairs_of (hashes ++ hash ∷ []) (numbers ++ number ∷ []) ≡ pairs_of hashes numbers ++ (hash.words, number) ∷ []
+pairs-push [] [] hash number e = refl
+pairs-push [] (first ∷ numbers) hash number e = absurd (omega (arith, e))
+pairs-push (first ∷ hashes) [] hash number e = absurd (omega (arith, e))
+pairs-push (first ∷ hashes) (one ∷ numbers) hash number e =
+    ap (λ (rest : List Entry). (first.words, one) ∷ rest) (pairs-push hashes numbers hash number (omega (arith, e)))
+
+-- one more pair is written, and the rest is left
+pub pairs-written : (hashes : List Hash) (numbers : List ℕ) (i : ℕ) (hash : Hash) (number : ℕ) (rest : List Entry) → i < length hashes → i < length numbers
+    → pairs_of (take (i + 1) (slice_set hashes i hash)) (take (i + 1) (slice_set numbers i number)) ++ rest
+    ≡ pairs_of (take i hashes) (take i numbers) ++ (hash.words, number) ∷ rest
+pairs-written hashes numbers i hash number rest h k =
+    ap (λ (front : List Hash). pairs_of front (take (i + 1) (slice_set numbers i number)) ++ rest) (take-set_at hashes i (i + 1) hash refl h)
+    ∙ ap (λ (front : List ℕ). pairs_of (take i hashes ++ hash ∷ []) front ++ rest) (take-set_at numbers i (i + 1) number refl k)
+    ∙ ap (λ (front : List Entry). front ++ rest)
+    (pairs-push (take i hashes) (take i numbers) hash number (omega (arith, length-take i hashes, length-take i numbers)))
+    ∙ append_assoc (pairs_of (take i hashes) (take i numbers)) ((hash.words, number) ∷ []) rest

@@ -170,6 +170,67 @@ pub extern "C" fn yurewha_hash_index_find(
     status
 }
 
+// Writes the entries of an index to two lists of their number.
+fn write_entries(kept: &HashIndex, hashes: &mut [Hash], numbers: &mut [u64])
+    requires hashes { length hashes.old ≡ length kept.now }
+    requires numbers { length numbers.old ≡ length kept.now }
+    ensures { pairs_of hashes.new numbers.new ≡ kept.now }
+{
+    'entries: for (i, (hash, number)) in kept.iter().enumerate() {
+        hashes[i] = Hash::of(*hash);
+        numbers[i] = *number;
+    }
+}
+
+// Does the same if the lists have this length. Returns the status.
+fn write_all(kept: &HashIndex, hashes: &mut [Hash], numbers: &mut [u64]) -> u32
+    ensures entries { result ≡ DONE → pairs_of hashes.new numbers.new ≡ kept.now }
+    ensures each_once { result ≡ DONE → IsIndex (pairs_of hashes.new numbers.new) }
+    ensures arguments { (result ≡ ARGUMENTS)
+        ↔ ((length hashes.old ≢ length kept.now) ⊎ (length numbers.old ≢ length kept.now)) }
+    ensures statuses { (result ≡ DONE) ⊎ (result ≡ ARGUMENTS) }
+    ensures unchanged { result ≢ DONE → (hashes.new ≡ hashes.old) × (numbers.new ≡ numbers.old) }
+{
+    let count = kept.len();
+    if hashes.len() != count || numbers.len() != count {
+        return ARGUMENTS;
+    }
+    write_entries(kept, hashes, numbers);
+    DONE
+}
+
+/// Writes all hashes that have a number, each once, in no particular order, and beside each its number. It allocates
+/// nothing.
+///
+/// - `DONE`: they are written.
+/// - `EMPTY_HANDLE`: if and only if the handle is empty.
+/// - `ARGUMENTS`: if and only if there is an index, and the length of a list isn't the number of its hashes.
+///
+/// Since 1.1.
+#[unsafe(no_mangle)]
+pub extern "C" fn yurewha_hash_index_entries(
+    alloc: Global,
+    index: &mut HashIndexHandle,
+    hashes: &mut [Hash],
+    numbers: &mut [u64],
+) -> u32
+    ensures entries { result ≡ DONE → index.old.value ≡ Some (pairs_of hashes.new numbers.new) }
+    ensures each_once { result ≡ DONE → IsIndex (pairs_of hashes.new numbers.new) }
+    ensures arguments { IfSome index.old.value (λ kept. (result ≡ ARGUMENTS)
+        ↔ ((length hashes.old ≢ length kept) ⊎ (length numbers.old ≢ length kept))) }
+    ensures empty { (result ≡ EMPTY_HANDLE) ↔ (index.old.value ≡ None) }
+    ensures statuses { (result ≡ DONE) ⊎ ((result ≡ EMPTY_HANDLE) ⊎ (result ≡ ARGUMENTS)) }
+    ensures kept { index.new.value ≡ index.old.value }
+    ensures unchanged { result ≢ DONE → (hashes.new ≡ hashes.old) × (numbers.new ≡ numbers.old) }
+{
+    let Some(kept) = index.take(alloc) else {
+        return EMPTY_HANDLE;
+    };
+    let status = write_all(&kept, hashes, numbers);
+    index.put(kept);
+    status
+}
+
 /// Writes how many hashes have a number. It allocates nothing.
 ///
 /// - `DONE`: it is written.
