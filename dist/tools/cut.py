@@ -81,6 +81,14 @@ def calls_of(names: Iterable[str], module: str) -> dict[str, str]:
     return found
 
 
+def keeps_promises(of_other: str, called: str) -> bool:
+    """Whether a function is called in the same way. Of a parameter whose address callers take for kept, it may promise more: that it
+    neither writes there nor keeps the address."""
+    known, more = " captures(address)", " readonly captures(none)"
+    words, others = called.split(", "), of_other.split(", ")
+    return len(words) == len(others) and all(it in (word, word.replace(known, more)) for it, word in zip(others, words))
+
+
 def refuse_other_calls(library: str, other: str, name: str, *, has_all: bool = True) -> None:
     """Refuses a module whose kernels are called in another way than those of the library's module: a level's, or a program's.
 
@@ -90,7 +98,7 @@ def refuse_other_calls(library: str, other: str, name: str, *, has_all: bool = T
     for kernel in KERNELS:
         if kernel not in called or has_all and kernel not in of_other:
             raise Fault(f"{'the library' if kernel not in called else name} has no function {kernel}")
-        if of_other.get(kernel, called[kernel]) != called[kernel]:
+        if not keeps_promises(of_other.get(kernel, called[kernel]), called[kernel]):
             raise Fault(f"{kernel} is called as {called[kernel]}, and in {name} as {of_other[kernel]}")
         if has_vectors_above(MOST_BITS, called[kernel]):
             raise Fault(f"{kernel} is called with long vectors: {called[kernel]}")
