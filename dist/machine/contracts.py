@@ -14,10 +14,10 @@ import bits
 from bits import Answers, Class, Some
 from calls import STACK, Caller
 from covers import must_cover
-from definition import CHUNK_END, CHUNK_START, KEYED_HASH, PARENT, compress
+from definition import CHUNK_END, CHUNK_START, KEYED_HASH, PARENT
 from explore import classes
 from fault import Fault, number, some
-from kernels import TWO_PAIRS, side_by_side
+from kernels import side_by_side
 from layout import Library, inner
 from long_messages import Arguments, Unknown
 from machine import Machine, unknown_value
@@ -87,7 +87,7 @@ class Course:
         #: Words that are somewhere at first, and lists of words, by what they are.
         self.first: Dict[object, List[Word]] = {}
 
-    def begin(self, its: Class, kernels: "Callable[[Course], Kernels]" = lambda its: Kernels(its)) -> Theory:
+    def begin(self, its: Class) -> Theory:
         """Begins a run for a class, in new memory. Words are forgotten now and then, to save memory."""
         if self.runs % 200 == 0:
             forget()
@@ -98,8 +98,7 @@ class Course:
         self.m.memory = self.memory()
         self.m.stand_ins.clear()
         self.changes = 0
-        self.kernels = kernels(self)
-        return Theory(self.kernels)
+        return Theory(Kernels(self))
 
     def memory(self) -> Memory:
         memory = Memory(self.m.lowest_on_stack)
@@ -180,13 +179,6 @@ class Kernels(Unknown):
         return side_by_side(
             self.compress(h[j], theory.words_of_block(memory, at[j]), pair(counters[j], counters[lanes + j]), lengths[j], flags[j])
             for j in range(lanes))
-
-
-class Defined(Kernels):
-    """The same, as the definition has them, for a function that also compresses blocks by itself."""
-
-    def compress(self, h: Sequence[Word], m: Sequence[Word], counter: Value, length: Word, flags: Word) -> List[Word]:
-        return compress(h, m, counter, length, flags)
 
 
 def must_be(found: Sequence[object], wanted: Sequence[object], what: str) -> None:
@@ -312,10 +304,8 @@ def run_apart(course: Course, lanes: int, function: str, level: int, its: Class)
 def run_absorb(course: Course, lanes: int, level: int, its: Class) -> None:
     """`absorb_subtrees` of subtrees of 2^level chunks, in so many lanes: for every key and number of the first chunk.
 
-    The values that it adds to those that wait have to be those of subtrees that follow each other from the first chunk on up to the last. In
-    four of more lanes it compresses two pairs of blocks by itself, unless the level has a function for that."""
-    has_pairs = lanes == 4 < course.library.level.lanes and not course.library.has(inner(TWO_PAIRS))
-    theory = course.begin(its, Defined if has_pairs else Kernels)
+    The values that it adds to those that wait have to be those of subtrees that follow each other from the first chunk on up to the last."""
+    theory = course.begin(its)
     memory = course.m.memory
     begun = bits.shift_left(bits.variable(0, DEPTH - level), level)
     kept = bits.known(bits.variable(DEPTH - level, 1))
@@ -334,9 +324,6 @@ def run_absorb(course: Course, lanes: int, level: int, its: Class) -> None:
     add_values_apart(course, lanes, theory, inside)
     added: List[Tuple[Some, List[Word], int]] = []
     stand_in_for_add(course, added)
-    if has_pairs:  # words.py wants the definition first
-        for j in range(count):
-            theory.chunk_value(memory, [at_place(HASHER + 4 * k) for k in range(8)], MESSAGE + 1024 * j, bits.add(begun, j))
     is_widest = lanes == course.library.level.lanes
     arguments = [HASHER, begun, *[1 << level] * is_widest, count, MESSAGE, 1024 * chunks, kept]
     course.run(of_width("tree::Tree::absorb_subtrees", lanes), arguments)

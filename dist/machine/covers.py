@@ -44,12 +44,12 @@ def size(its: Class, bits: int) -> int:
     """How many of 2^bits numbers a class has."""
     known: Dict[int, int] = {}
     sums: List[Tuple[FrozenSet[int], int]] = []
-    lists: List[Tuple[int, ...]] = []
+    lists: List[FrozenSet[int]] = []
     for question, answer in its:
         if isinstance(question, frozenset):
             sums.append((question, answer))
         elif isinstance(question, tuple) and answer:
-            lists.append(question)
+            lists.append(frozenset(question))
         else:
             for bit in (question,) if isinstance(question, int) else question:
                 if known.setdefault(bit, answer) != answer:
@@ -57,12 +57,13 @@ def size(its: Class, bits: int) -> int:
     return _size(known, sums, lists, bits)
 
 
-def _size(known: Dict[int, int], sums: List[Tuple[FrozenSet[int], int]], lists: List[Tuple[int, ...]], bits: int) -> int:
-    """The same, of what is known of bits, sums, and lists of which a bit is 1. Those with a 1 in a list are all but those without."""
+def _size(known: Dict[int, int], sums: List[Tuple[FrozenSet[int], int]], lists: List[FrozenSet[int]], bits: int) -> int:
+    """The same, of what is known of bits, sums, and lists of which a bit is 1. Those with a 1 in a list are all but those without. A list
+    with all bits of another one has a 1 because that has one."""
+    left = {frozenset(bit for bit in one if bit not in known) for one in lists if not any(known.get(bit) for bit in one)}
+    lists = [one for one in left if not any(other < one for other in left)]
     if lists:
         one, others = lists[0], lists[1:]
-        if any(known.get(bit) for bit in one):
-            return _size(known, sums, others, bits)
         return _size(known, sums, others, bits) - _size({**known, **dict.fromkeys(one, 0)}, sums, others, bits)
     seen: Set[int] = set()
     count = 1
