@@ -70,10 +70,11 @@ static void *reallocate(void *block, size_t size)
 static struct {
     yurewha_subtree subtree, other;
     yurewha_session session;
-    yurewha_hash_tree tree;
+    yurewha_hash_tree tree, tail;
     yurewha_opened_range range;
     yurewha_part part;
     yurewha_reader reader;
+    yurewha_hash_index index;
 } made;
 static uint8_t data[CHUNKS];
 static const yurewha_bytes salt = {{7}};
@@ -82,12 +83,15 @@ static yurewha_hash file;
 static yurewha_level levels[LEVELS];
 static yurewha_chunk nodes[CHUNKS + 1024];
 static size_t level_count, node_count;
+/* The hashes of the index. */
+static yurewha_hash hashes[CHUNKS];
 
 /* All that is read of them. Each answer is copied here, so that two of them are compared by their bytes. */
 struct answers {
     yurewha_hash hashes[5];
     uint64_t numbers[29];
-    yurewha_hash known[CHUNKS];
+    yurewha_hash known[CHUNKS], indexed[CHUNKS];
+    uint64_t places[CHUNKS];
     yurewha_chunk nodes[CHUNKS + 1024];
     yurewha_level levels[LEVELS];
     char text[TEXT];
@@ -99,9 +103,11 @@ struct answers {
 #define OTHER COPY(yurewha_subtree, made.other)
 #define SESSION COPY(yurewha_session, made.session)
 #define TREE COPY(yurewha_hash_tree, made.tree)
+#define TAIL COPY(yurewha_hash_tree, made.tail)
 #define RANGE COPY(yurewha_opened_range, made.range)
 #define PART COPY(yurewha_part, made.part)
 #define READER COPY(yurewha_reader, made.reader)
+#define INDEX COPY(yurewha_hash_index, made.index)
 
 static void read_subtree(struct answers *to)
 {
@@ -173,6 +179,18 @@ static void read_tree(struct answers *to)
     EXPECT(yurewha_hash_tree_bytes_of(TREE, FIRST, END, &to->numbers[10], &to->numbers[11]) == YUREWHA_DONE);
     EXPECT(yurewha_hash_tree_proof(TREE, FIRST, END, to->levels, LEVELS, to->nodes, CHUNKS + 1024, &levels, &nodes) == YUREWHA_DONE);
     to->numbers[12] = levels, to->numbers[13] = nodes;
+    EXPECT(yurewha_hash_tree_common_prefix(TREE, TAIL, &count) == YUREWHA_DONE && count == 0);
+    EXPECT(yurewha_hash_tree_common_suffix(TREE, TAIL, CHUNKS, &count) == YUREWHA_DONE && count == CHUNKS - FIRST);
+}
+
+static void read_index(struct answers *to)
+{
+    size_t count = 0;
+    uint8_t found[CHUNKS];
+    EXPECT(yurewha_hash_index_len(INDEX, &count) == YUREWHA_DONE && count == CHUNKS);
+    EXPECT(yurewha_hash_index_entries(INDEX, to->indexed, CHUNKS, to->places, CHUNKS) == YUREWHA_DONE);
+    EXPECT(yurewha_hash_index_find(INDEX, hashes, CHUNKS, found, CHUNKS, to->places, CHUNKS) == YUREWHA_DONE);
+    EXPECT(found[CHUNKS - 1] == 1 && to->places[CHUNKS - 1] == CHUNKS - 1);
 }
 
 static void read_range(struct answers *to)
@@ -237,6 +255,7 @@ static void *read_all(void *given)
         read_subtree(to);
         read_session(to);
         read_tree(to);
+        read_index(to);
         read_range(to);
         read_reader(to);
     }
@@ -246,7 +265,9 @@ static void *read_all(void *given)
 static void make_all(void)
 {
     static yurewha_chunk chunks[CHUNKS];
+    static uint64_t places[CHUNKS];
     uint64_t fresh = 0;
+    size_t new_hashes = 0;
     for (size_t i = 0; i < CHUNKS; i++) {
         data[i] = (uint8_t)i;
         yurewha_data_hash(data + i, 1, &chunks[i].hash);
@@ -254,6 +275,8 @@ static void make_all(void)
         if (i >= FIRST && i < END)
             yurewha_data_hash(data + i, 1, &chunks[i].hash);
         chunks[i].size = 1;
+        hashes[i] = chunks[i].hash;
+        places[i] = i;
     }
     EXPECT(yurewha_subtree_from_chunks(true, chunks, CHUNKS, true, &made.subtree) == YUREWHA_DONE);
     EXPECT(yurewha_subtree_from_chunks(false, chunks + 9, 80, false, &made.other) == YUREWHA_DONE);
@@ -261,6 +284,9 @@ static void make_all(void)
     EXPECT(yurewha_session_put(&made.session, 100, chunks + 100, CHUNKS - 100, &fresh) == YUREWHA_DONE);
     EXPECT(yurewha_session_put(&made.session, 0, chunks, 100, &fresh) == YUREWHA_DONE);
     EXPECT(yurewha_hash_tree_from_chunks(chunks, CHUNKS, &made.tree) == YUREWHA_DONE);
+    EXPECT(yurewha_hash_tree_from_chunks(chunks + FIRST, CHUNKS - FIRST, &made.tail) == YUREWHA_DONE);
+    EXPECT(yurewha_hash_index_new(&made.index) == YUREWHA_DONE);
+    EXPECT(yurewha_hash_index_insert(&made.index, hashes, CHUNKS, places, CHUNKS, &new_hashes) == YUREWHA_DONE);
     EXPECT(yurewha_hash_tree_file_hash(&made.tree, &salt, &file) == YUREWHA_DONE);
     EXPECT(yurewha_hash_tree_proof(&made.tree, FIRST, END, levels, LEVELS, nodes, CHUNKS + 1024, &level_count, &node_count)
            == YUREWHA_DONE);
@@ -313,6 +339,8 @@ int main(void)
     yurewha_subtree_free(&made.other);
     yurewha_session_free(&made.session);
     yurewha_hash_tree_free(&made.tree);
+    yurewha_hash_tree_free(&made.tail);
+    yurewha_hash_index_free(&made.index);
     yurewha_opened_range_free(&made.range);
     yurewha_part_free(&made.part);
     yurewha_reader_free(&made.reader);
