@@ -1,7 +1,7 @@
 //! An index of hashes.
 
 use crate::read::{hash, number};
-use crate::told::found;
+use crate::told::{found, in_order};
 use anyhow::{Context, Result, bail};
 use hash_numbers::HashIndex;
 use std::alloc::Global;
@@ -39,8 +39,18 @@ fn called(alloc: Global, index: &mut HashIndex, call: &str) -> Result<String> {
         ),
         "get" => Ok(found(alloc, index.get(&hash(argument)?))?),
         "len" => Ok(index.len().to_string(alloc)?),
+        "iter" => entries(alloc, index),
         _ => bail!("no such call"),
     }
+}
+
+// Returns the hashes of an index in order, each with its number after an equals sign.
+fn entries(alloc: Global, index: &HashIndex) -> Result<String> {
+    let mut texts = Vec::new(alloc);
+    for (hash, number) in index.iter() {
+        texts.push(format!(in alloc; "{hash}={number}")?)?;
+    }
+    Ok(in_order(alloc, texts)?)
 }
 
 // Reads hashes with spaces between them, or `none`. Each has its number after an equals sign.

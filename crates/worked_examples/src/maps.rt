@@ -3,7 +3,7 @@
 ghost use Rattle.std.specs.Prelude.{◌≡◌};
 
 use crate::read::{bytes, hash, number};
-use crate::told::found;
+use crate::told::{found, in_order};
 use anyhow::{Context, Result, bail};
 use std::alloc::{AllocError, Global};
 use std::collections::HashMap;
@@ -239,29 +239,12 @@ fn replaced<'a>(alloc: Global, old: &mut &'a str, new: &'a str) -> Result<String
     Ok(text)
 }
 
-// Returns texts in order, with spaces between them.
-fn in_order(alloc: Global, texts: Vec<String>) -> Result<String> {
-    let mut texts = texts;
-    texts.sort()?;
-    let mut all = String::new(alloc);
-    for text in &texts {
-        if !all.is_empty() {
-            all.push(' ')?;
-        }
-        all.push_str(text.as_str())?;
-    }
-    if all.is_empty() {
-        all.push_str("none")?;
-    }
-    Ok(all)
-}
-
 fn entries<K: SaidKey>(alloc: Global, map: &PassThroughHashMap<K, &str>) -> Result<String> {
     let mut texts = Vec::new(alloc);
     for (key, value) in map.iter() {
         texts.push(format!(in alloc; "{key}={value}")?)?;
     }
-    in_order(alloc, texts)
+    Ok(in_order(alloc, texts)?)
 }
 
 fn keys<K: SaidKey>(alloc: Global, map: &PassThroughHashMap<K, &str>) -> Result<String> {
@@ -269,7 +252,7 @@ fn keys<K: SaidKey>(alloc: Global, map: &PassThroughHashMap<K, &str>) -> Result<
     for key in map.keys() {
         texts.push(key.to_string(alloc)?)?;
     }
-    in_order(alloc, texts)
+    Ok(in_order(alloc, texts)?)
 }
 
 fn values<K: SaidKey>(alloc: Global, map: &PassThroughHashMap<K, &str>) -> Result<String> {
@@ -277,5 +260,5 @@ fn values<K: SaidKey>(alloc: Global, map: &PassThroughHashMap<K, &str>) -> Resul
     for value in map.values() {
         texts.push(value.to_string(alloc)?)?;
     }
-    in_order(alloc, texts)
+    Ok(in_order(alloc, texts)?)
 }

@@ -21,3 +21,20 @@ pub fn found<T: Display + Drop>(alloc: Global, option: Option<T>) -> Result<Stri
         None => String::from_str(alloc, "none"),
     }
 }
+
+/// Returns texts in order, with spaces between them, or `none`.
+pub fn in_order(alloc: Global, texts: Vec<String>) -> Result<String, AllocError> {
+    let mut texts = texts;
+    texts.sort()?;
+    let mut all = String::new(alloc);
+    for text in &texts {
+        if !all.is_empty() {
+            all.push(' ')?;
+        }
+        all.push_str(text.as_str())?;
+    }
+    if all.is_empty() {
+        all.push_str("none")?;
+    }
+    Ok(all)
+}
