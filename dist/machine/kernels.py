@@ -168,7 +168,10 @@ def check_chunk_values(library: Library, name: str, places: Sequence[int]) -> Ma
     kernel = Kernel(library, name, [unknown() for _ in range(8 * len(places))])
     for place, chunk in zip(places, chunks):
         kernel.memory.add_words(CHUNKS + 1024 * place, chunk)
-    kernel.give_at(FIRST, key)
+    if name == FOUR_CHUNKS:
+        kernel.give_vectors(key, 1)
+    else:
+        kernel.give_at(FIRST, key)
     kernel.give(CHUNKS)
     kernel.give_at(SECOND, indices(places))
     kernel.give(first)
@@ -209,9 +212,9 @@ def check_four_parents(library: Library, lanes: int) -> Machine:
     """The parents of the first eight subtrees of some lanes."""
     forget()
     key, values = symbols("key", 8), [symbols(f"value {j}", 8) for j in range(lanes)]
-    wanted = Wanted(parent_of_each, key, (values[:8:2], values[1:8:2]))
+    wanted = Wanted(parent_of_each, key, values[:8:2], values[1:8:2])
     kernel = Kernel(library, of_width(FOUR_PARENTS, lanes), [unknown() for _ in range(32)])
-    kernel.give_at(FIRST, key)
+    kernel.give_vectors(key, 1)
     kernel.give_at(SECOND, side_by_side(values))
     return kernel.must_give(wanted, f"parents of eight subtrees in {lanes} lanes")
 

@@ -168,7 +168,7 @@ class Unknown:
 
     def four_chunks(self, its: Arguments) -> List[Word]:
         its.value()
-        key, chunks, places, first = its.words(8), number(its.value()), its.words(8), its.value()
+        key, chunks, places, first = its.of_vectors(8, 1), number(its.value()), its.words(8), its.value()
         return side_by_side(
             self.chunk(key, self.m.memory.load(chunks + 1024 * place, 256), add_64(first, place))
             for place in (number(pair(*places[2 * j:2 * j + 2])) for j in range(4)))
@@ -183,7 +183,7 @@ class Unknown:
 
     def four_parents(self, lanes: int, its: Arguments) -> List[Word]:
         its.value()
-        key, values = its.words(8), its.lanes(8, lanes)
+        key, values = its.of_vectors(8, 1), its.lanes(8, lanes)
         return side_by_side(self.compress(key, [*values[2 * j], *values[2 * j + 1]], 0, 64, KEYED_HASH + PARENT) for j in range(4))
 
     def take_block(self, lanes: int, its: Arguments) -> List[Word]:
