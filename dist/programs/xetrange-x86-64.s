@@ -1,5 +1,5 @@
 /* Yurewha 1.1.0 for x86-64: the proved program xetrange, as the toolchain compiles it. Made by dist/make, not by hand.
-   The sum of its sources: aa0087cf086b9549f7c45fd6bd3427ce8889357970149bcab777dff401f6c9c4 */
+   The sum of its sources: d44ea113500f95a6f99f5c3a95a44294d1d16ff0ae027188d6d8d0e70756cdad */
 	.section	.note.gnu.property,"a",@note
 	.p2align	3, 0x0
 	.long	4, 16, 5

@@ -1,5 +1,5 @@
 /* Yurewha 1.1.0 for x86-64: the proved program xetroot, as the toolchain compiles it. Made by dist/make, not by hand.
-   The sum of its sources: 7d7c3d9214e5a4fbe1b57caf723efaeb6d0d749f45cb62a35852858732369b78 */
+   The sum of its sources: 6772dc728e8523a8e36ff2899c0f9fc007c216d89fafc4953a465b62f80dcc20 */
 	.section	.note.gnu.property,"a",@note
 	.p2align	3, 0x0
 	.long	4, 16, 5

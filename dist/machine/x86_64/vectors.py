@@ -262,6 +262,7 @@ def _permq(k: int) -> OfOne:
 
 _OF_ONE_BY_NUMBER: Dict[str, Callable[[int], OfOne]] = {
     "pshufd": _pshufd, "permilps": _pshufd, "pshuflw": _half_words(0), "pshufhw": _half_words(1), "permq": _permq, "permpd": _permq,
+    "permilpd": lambda k: lambda a: _shufpd(k)(a, a),
     "prord": lambda k: _each(lambda word: ror(word, k)), "prold": lambda k: _each(lambda word: ror(word, 32 - (k & 31))),
 }
 _SHIFTS: Dict[str, Callable[[int], OfOne]] = {
