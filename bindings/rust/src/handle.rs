@@ -34,6 +34,10 @@ impl Handle for ffi::yurewha_reader {
     const FREE: unsafe extern "C" fn(*mut Self) = ffi::yurewha_reader_free;
 }
 
+impl Handle for ffi::yurewha_hash_index {
+    const FREE: unsafe extern "C" fn(*mut Self) = ffi::yurewha_hash_index_free;
+}
+
 // SAFETY: a handle is a pointer to memory of `malloc` that only one value owns. Nothing of the library is bound to a
 // thread, and any thread may call `free`.
 unsafe impl Send for ffi::yurewha_subtree {}
@@ -52,6 +56,9 @@ unsafe impl Send for ffi::yurewha_part {}
 
 // SAFETY: as above.
 unsafe impl Send for ffi::yurewha_reader {}
+
+// SAFETY: as above.
+unsafe impl Send for ffi::yurewha_hash_index {}
 
 /// A handle with one owner, which frees it, to a value that calls change.
 ///
@@ -91,10 +98,10 @@ impl<H: Handle> Drop for Owned<H> {
     }
 }
 
-/// A handle with one owner, which frees it, to a value that no call changes.
+/// A handle with one owner, which frees it, to a value that no call changes while others can see it.
 ///
-/// A call that reads writes to its handle, and not to the value. So each call gets a handle of its own, a copy of this
-/// one, and threads read one value at once.
+/// A call that reads writes to its handle, and not to the value. So each such call gets a handle of its own, a copy of
+/// this one, and threads read one value at once.
 #[derive(Default)]
 pub(crate) struct Shared<H: Handle>(H);
 

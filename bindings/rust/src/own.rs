@@ -1,5 +1,6 @@
-//! What the crate `xet-core-structures` doesn't have: proofs of parts of a file, sessions, a hasher that takes a message
-//! in pieces, hashing on several threads, and calls that return a [`Result`](crate::error::Result) instead of a panic.
+//! What the crate `xet-core-structures` doesn't have: proofs of parts of a file, sessions, indexes of hashes, a hasher
+//! that takes a message in pieces, hashing on several threads, and calls that return a
+//! [`Result`](crate::error::Result) instead of a panic.
 //!
 //! They aren't in [`merklehash`](crate::merklehash), so that a glob of that module brings in only the names of that
 //! crate. Import them by name.
@@ -76,6 +77,7 @@
 
 use crate::merklehash::MerkleHash;
 
+mod hash_index;
 mod hasher;
 mod hex_text;
 mod range_proof;
@@ -85,9 +87,10 @@ mod session;
 mod stable_points;
 
 pub use crate::merklehash::data_hash::errors::HashTextError;
+pub use hash_index::HashIndex;
 pub use hasher::Hasher;
 pub use hex_text::{parse_hex, HexError};
-pub use range_proof::{HashTree, OpenError, OpenFault, OpenedRange, RangeProof};
+pub use range_proof::{Difference, HashTree, OpenError, OpenFault, OpenedRange, RangeProof};
 pub use range_proof::{OtherFile, PartFault, VerifiedReader, WantedPart};
 pub use reading::hash_chunks;
 pub use roots::{try_file_hash, try_file_hash_with_salt, try_xorb_hash};

@@ -21,7 +21,7 @@ use yurewha::merklehash::{
     MerkleHashSubtree, PassThroughHashMap,
 };
 use yurewha::own::{
-    self, try_file_hash, try_file_hash_with_salt, try_find_stable_end, try_find_stable_start, try_xorb_hash,
+    self, try_file_hash, try_file_hash_with_salt, try_find_stable_end, try_find_stable_start, try_xorb_hash, HashIndex,
     HashTextError, HashTree, Node, OpenError, OpenFault, OpenedRange, PartFault, RangeProof, Session, SessionFault,
     VerifiedReader,
 };
@@ -432,6 +432,45 @@ fn sessions_are_refused() {
     assert_eq!(session.finish(60), Ok(file_hash(&nodes)));
 }
 
+// That a refused call adds no hash, and that the same call adds all of them later.
+#[test]
+fn indexes_of_hashes_are_refused() {
+    assert_each_refusal(NO_MEMORY, HashIndex::try_new);
+    let hash = |i: u64| DataHash::from([i; 4]);
+    let mut index = HashIndex::new();
+    for (first, end) in [(0, 40), (40, 1000)] {
+        for before in 0.. {
+            let (answer, refused) = with_refusal(before, || index.insert((first..end).map(|i| (hash(i), i + 1))));
+            assert_eq!(
+                answer,
+                if refused {
+                    Err(NO_MEMORY)
+                } else {
+                    Ok((end - first) as usize)
+                }
+            );
+            let len = if refused { first } else { end };
+            assert_eq!(index.len(), len as usize);
+            assert!((0..end).all(|i| index.get(&hash(i)) == (i < len).then_some(i + 1)));
+            if !refused {
+                assert!(before > 3, "{before}");
+                break;
+            }
+        }
+    }
+    assert_each_refusal(NO_MEMORY, || index.entries());
+    assert_each_refusal(NO_MEMORY, || index.try_clone());
+    assert_eq!(index.len(), 1000);
+}
+
+#[test]
+fn an_index_takes_room_for_the_entries_that_come() {
+    let mut index = HashIndex::new();
+    let entries = Announced((0..1000).map(|i| (DataHash::from([i; 4]), i)));
+    let greatest = greatest_request(|| assert_eq!(index.insert(entries), Ok(1000)));
+    assert!((32_000..1 << 20).contains(&greatest), "{greatest}");
+}
+
 // Pairs that announce more than come.
 struct Announced<I>(I);
 
@@ -494,6 +533,12 @@ fn a_value_that_is_dropped_frees_its_memory() {
         assert_eq!(proof.open_root(&tree.root()).unwrap().clone().num_chunks(), 2);
         assert_eq!(session.finish(60), Ok(file_hash(&nodes)));
         assert!(Session::from_json(&session.to_json().unwrap()).unwrap() == session);
+        assert!(HashIndex::new().is_empty());
+        let mut index = HashIndex::new();
+        index.insert(nodes.iter().copied()).unwrap();
+        index.insert([(DataHash::marker(), 7)]).unwrap();
+        assert_eq!(index.clone().get(&DataHash::marker()), Some(7));
+        assert_eq!(index.entries().unwrap().len(), 61);
         let reader = VerifiedReader::new(&tree.file_hash(), 1 << 20).unwrap();
         let mut part = reader.open(&tree.proof(7..9).unwrap(), 7..9, 0).unwrap();
         assert!(part.check(b"??").is_none() && reader.take(part).is_ok());
@@ -552,6 +597,12 @@ fn calls_without_a_result_name_call_and_cause_in_a_panic() {
     );
     assert_eq!(panic_of(|| drop(Session::new())), "Session::new: out of memory");
     assert_eq!(panic_of(|| drop(Session::default())), "Session::new: out of memory");
+    assert_eq!(panic_of(|| drop(HashIndex::new())), "HashIndex::new: out of memory");
+    assert_eq!(panic_of(|| drop(HashIndex::default())), "HashIndex::new: out of memory");
+    let mut index = HashIndex::new();
+    index.insert(nodes.iter().copied()).unwrap();
+    assert_eq!(panic_of(|| index.clone()), "HashIndex::clone: out of memory");
+    assert_eq!(panic_of(|| index == index), "HashIndex::eq: out of memory");
     assert_eq!(panic_of(|| session.range(0)), "Session::range: out of memory");
     assert_eq!(panic_of(|| session.run_from(0)), "Session::run_from: out of memory");
     assert_eq!(panic_of(|| session.clone()), "Session::clone: out of memory");
@@ -634,6 +685,9 @@ fn other_calls_take_no_memory() {
     let mut session = Session::new();
     session.put(0, &nodes).unwrap();
     let (tree, xorb_root) = (HashTree::from_chunks(&nodes).unwrap(), xorb_hash(&nodes));
+    let shorter = HashTree::from_chunks(&nodes[..50]).unwrap();
+    let mut index = HashIndex::new();
+    index.insert(nodes.iter().copied()).unwrap();
     let chunks = [&b"a chunk"[..], b"another", b"and a third"].map(|data| (compute_data_hash(data), data.len() as u64));
     let range = RangeProof::from_chunks(&chunks, 1..2)
         .unwrap()
@@ -661,6 +715,8 @@ fn other_calls_take_no_memory() {
         assert!(find_stable_start(&nodes) <= find_stable_end(&nodes));
         assert!(try_find_stable_start(&nodes).is_ok() && try_find_stable_end(&nodes).is_ok());
         assert!(tree.root() == xorb_root && tree.file_hash() != tree.file_hash_with_salt(&bytes));
+        assert!(tree.diff(&shorter).is_some_and(|found| found.first == 50) && tree.diff(&tree).is_none());
+        assert!(index.get(&nodes[7].0) == Some(1) && !index.contains(&hash) && index.len() == 60);
         assert!(tree.chunks_at(7..9) == Some(7..9) && tree.bytes_of(7..9) == Some(7..9) && tree.num_chunks() == 60);
         assert!(range.begins(0) == Some(7) && range.ends(0) == Some(14) && range.file_size() == 25);
         assert!(range.check(0, b"another") == Some(7) && range.check(0, b"a chunk").is_none());

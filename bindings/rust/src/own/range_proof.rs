@@ -20,7 +20,7 @@ mod opened_range;
 mod verified_reader;
 mod wanted_part;
 
-pub use hash_tree::HashTree;
+pub use hash_tree::{Difference, HashTree};
 pub use opened_range::OpenedRange;
 use opened_range::Shown;
 pub use verified_reader::{OtherFile, VerifiedReader};

@@ -3,11 +3,13 @@
 mod clients;
 mod data_hash;
 mod definitions;
+mod differences;
 #[cfg(feature = "digest")]
 mod digest;
 mod draws;
 #[cfg(feature = "serde")]
 mod forms;
+mod hash_indexes;
 mod hashed_write;
 #[cfg(target_os = "linux")]
 mod held_up;

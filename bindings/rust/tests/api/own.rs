@@ -59,6 +59,14 @@ fn own_items_have_their_signatures() {
     let _: fn(&own::HashTree, Range<usize>) -> Option<Range<u64>> = own::HashTree::bytes_of;
     let _: fn(&own::HashTree, Range<usize>) -> Result<own::RangeProof> = own::HashTree::proof;
     let _: fn(&own::HashTree) -> Result<own::HashTree> = own::HashTree::try_clone;
+    let _: fn(&own::HashTree, &own::HashTree) -> Option<own::Difference> = own::HashTree::diff;
+    let _: fn() -> Result<own::HashIndex> = own::HashIndex::try_new;
+    let _: fn(&mut own::HashIndex, Vec<own::Node>) -> Result<usize> = own::HashIndex::insert;
+    let _: fn(&own::HashIndex, &MerkleHash) -> Option<u64> = own::HashIndex::get;
+    let _: fn(&own::HashIndex, &MerkleHash) -> bool = own::HashIndex::contains;
+    let _: fn(&own::HashIndex) -> usize = own::HashIndex::len;
+    let _: fn(&own::HashIndex) -> Result<Vec<own::Node>> = own::HashIndex::entries;
+    let _: fn(&own::HashIndex) -> Result<own::HashIndex> = own::HashIndex::try_clone;
     let _: fn(&own::OpenedRange) -> Result<own::OpenedRange> = own::OpenedRange::try_clone;
     let _: fn(&str) -> std::result::Result<MerkleHash, own::HexError> = own::parse_hex;
     let _: fn(io::Empty, Vec<usize>, NonZeroUsize) -> io::Result<Vec<own::Node>> = own::hash_chunks;
@@ -92,10 +100,16 @@ fn values_have_the_traits_of_values() {
     value::<own::OpenedRange>();
     value::<own::Hasher>();
     compared::<own::HashTree>();
+    compared::<own::Difference>();
+    compared::<own::HashIndex>();
+    fn copied<T: Copy>() {}
+    copied::<own::Difference>();
+    key::<own::Difference>();
     compared::<own::Session>();
     compared::<own::RangeProof>();
     default::<own::Hasher>();
     default::<own::Session>();
+    default::<own::HashIndex>();
     default::<Subtree>();
     key::<Subtree>();
     key::<MerkleHash>();
@@ -171,7 +185,7 @@ mod of_the_user {
     }
     unit_structs!(Node Session SessionFault Hasher HashTextError CoreError Result Owned);
     unit_structs!(HashTree RangeProof OpenedRange OpenError OpenFault HexError);
-    unit_structs!(VerifiedReader WantedPart PartFault OtherFile);
+    unit_structs!(VerifiedReader WantedPart PartFault OtherFile Difference HashIndex);
     pub fn parse_hex() {}
     pub fn hash_chunks() {}
     pub fn try_xorb_hash() {}
@@ -180,7 +194,7 @@ mod of_the_user {
     pub fn try_find_stable_start() {}
     pub fn try_find_stable_end() {}
     constants!(DATA_KEY);
-    modules!(blake3 range_proof in_form session own error errors forms lent_chunks hashed_write roots stable_points json_text serde);
+    modules!(blake3 range_proof in_form hash_index session own error errors forms lent_chunks hashed_write roots stable_points json_text serde);
 }
 
 // The alias is beside the modules, as in the Rust crate, not in one of them.
@@ -264,6 +278,7 @@ mod through_globs {
         );
         let _ = (HashTree, RangeProof, OpenedRange, OpenError, OpenFault);
         let _ = (VerifiedReader, WantedPart, PartFault, OtherFile);
+        let _ = (Difference, HashIndex);
         try_xorb_hash();
         try_file_hash();
         try_file_hash_with_salt();
@@ -273,6 +288,7 @@ mod through_globs {
             blake3::ONE,
             range_proof::ONE,
             in_form::ONE,
+            hash_index::ONE,
             session::ONE,
             own::ONE,
             error::ONE,
@@ -285,7 +301,7 @@ mod through_globs {
             json_text::ONE,
             serde::ONE,
         ];
-        assert_eq!(modules, [1; 14]);
+        assert_eq!(modules, [1; 15]);
         assert_eq!(DATA_KEY, 0);
     }
 }

@@ -10,7 +10,9 @@ use std::thread;
 use yurewha::merklehash::{
     compute_data_hash, file_hash, xorb_hash, DataHash, HashedWrite, MerkleHashSubtree, PassThroughHashMap,
 };
-use yurewha::own::{self, HashTree, OpenedRange, RangeProof, Session, SessionFault, VerifiedReader, WantedPart};
+use yurewha::own::{
+    self, HashIndex, HashTree, OpenedRange, RangeProof, Session, SessionFault, VerifiedReader, WantedPart,
+};
 
 const fn assert_send_and_sync<T: Send + Sync>() {}
 
@@ -20,6 +22,7 @@ const _: () = {
     assert_send_and_sync::<MerkleHashSubtree>();
     assert_send_and_sync::<Session>();
     assert_send_and_sync::<HashTree>();
+    assert_send_and_sync::<HashIndex>();
     assert_send_and_sync::<RangeProof>();
     assert_send_and_sync::<OpenedRange>();
     assert_send_and_sync::<VerifiedReader>();
@@ -29,6 +32,7 @@ const _: () = {
     assert_unwind_safe::<MerkleHashSubtree>();
     assert_unwind_safe::<Session>();
     assert_unwind_safe::<HashTree>();
+    assert_unwind_safe::<HashIndex>();
     assert_unwind_safe::<RangeProof>();
     assert_unwind_safe::<OpenedRange>();
     assert_unwind_safe::<VerifiedReader>();
@@ -201,6 +205,46 @@ fn threads_look_at_the_same_tree_and_the_same_range() {
             });
         }
     });
+}
+
+#[test]
+fn threads_find_where_the_same_trees_differ() {
+    let chunks = Draws(18).nodes(300);
+    let tree = HashTree::from_chunks(&chunks).unwrap();
+    let shorter = HashTree::from_chunks(&[&chunks[..100], &chunks[110..]].concat()).unwrap();
+    thread::scope(|scope| {
+        for _ in 0..THREADS {
+            scope.spawn(|| {
+                for _ in 0..1000 {
+                    let [one, other] = [tree.diff(&shorter), shorter.diff(&tree)].map(Option::unwrap);
+                    assert_eq!((one.first, one.end, one.other_end), (100, 110, 100));
+                    assert_eq!((other.first, other.end, other.other_end), (100, 100, 110));
+                    assert_eq!(tree.diff(&tree), None);
+                }
+            });
+        }
+    });
+}
+
+#[test]
+fn threads_look_at_the_same_index() {
+    let hashes: Vec<_> = Draws(19).nodes(300).into_iter().map(|node| node.0).collect();
+    let mut index = HashIndex::new();
+    index.insert(hashes[..200].iter().copied().zip(0..)).unwrap();
+    thread::scope(|scope| {
+        for _ in 0..THREADS {
+            scope.spawn(|| {
+                for _ in 0..100 {
+                    for (number, hash) in (0..).zip(&hashes) {
+                        assert_eq!(index.get(hash), Some(number).filter(|&number| number < 200));
+                    }
+                    assert_eq!((index.len(), index.contains(&hashes[200])), (200, false));
+                    assert_eq!(index.entries().unwrap().len(), 200);
+                }
+            });
+        }
+    });
+    assert_eq!(index.insert([(hashes[200], 7)]), Ok(1));
 }
 
 #[test]

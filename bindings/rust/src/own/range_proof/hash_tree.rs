@@ -11,6 +11,10 @@ use crate::status::{answer, plain, told, told_if_there};
 use std::ops::Range;
 use std::{fmt, ptr};
 
+mod difference;
+
+pub use difference::Difference;
+
 /// All levels of nodes over a list of chunks, kept so that a proof takes time with the number of levels and of its own
 /// nodes, and not with the number of chunks.
 ///
