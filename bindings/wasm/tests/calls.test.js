@@ -817,8 +817,8 @@ test("each declared name is there, and each that is there is declared", () => {
     };
     const own = (it) => Object.getOwnPropertyNames(it);
     assert.deepEqual(own(y).sort(), members("Yurewha").sort());
-    for (const name of ["Hash", "Chunks", "Hasher", "Subtree", "Session", "HashTree", "RangeProof", "OpenedRange", "VerifiedBlob"]) {
-        const freed = ["Subtree", "Session", "HashTree", "OpenedRange"].includes(name) ? ["free"] : [];
+    for (const name of ["Hash", "Chunks", "Hasher", "Subtree", "Session", "HashIndex", "HashTree", "RangeProof", "OpenedRange", "VerifiedBlob"]) {
+        const freed = ["Subtree", "Session", "HashIndex", "HashTree", "OpenedRange"].includes(name) ? ["free"] : [];
         assert.deepEqual(own(y[name].prototype).filter((it) => it !== "constructor").sort(), [...members(name), ...freed].sort());
         const statics = own(y[name]).filter((it) => !["length", "name", "prototype"].includes(it));
         assert.deepEqual(statics.sort(), members(`${name}Constructor`).filter((it) => it !== "prototype").sort());
@@ -830,7 +830,7 @@ test("each declared name is there, and each that is there is declared", () => {
 test("the examples of the declarations print what they say", async () => {
     const declared = readFileSync(new URL("bindings/wasm/yurewha/index.d.ts", ROOT), "utf8");
     const examples = [...declared.matchAll(/^ *\* ```js\n([^]*?)^ *\* ```$/gm)].map(([, lines]) => lines.replace(/^ *\* ?/gm, ""));
-    assert.equal(examples.length, 20);
+    assert.equal(examples.length, 22);
     for (const example of examples) {
         const printed = [];
         const run = new (async () => {}).constructor("y", "load", "console", example);

@@ -24,6 +24,7 @@ import {
     type Chunks,
     type ChunksConstructor,
     type Data,
+    type Difference,
     type FetchBytes,
     type Flat,
     type FlatInput,
@@ -32,6 +33,8 @@ import {
     type Freed,
     type Hash,
     type HashConstructor,
+    type HashIndex,
+    type HashIndexConstructor,
     type HashTree,
     type HashTreeConstructor,
     type Hasher,
@@ -43,6 +46,7 @@ import {
     type RangeProofConstructor,
     type Received,
     type Run,
+    type SavedHashIndex,
     type SavedSession,
     type Session,
     type SessionConstructor,
@@ -118,6 +122,16 @@ const taken: boolean = again.taken(1) && session.numRuns === 1;
 const tree: HashTree = y.HashTree.fromChunks(pairs);
 const [place, after]: [number, number] = tree.chunksAt(0, 5n)!;
 const bytesOf: [bigint, bigint] | null = tree.bytesOf(place, after);
+const difference: Difference | null = tree.diff(y.HashTree.fromChunks(pairs.slice(1)));
+const differing: [number, number, number] = [difference!.first, difference!.end, difference!.otherEnd];
+const differingBytes: [bigint, bigint, bigint] = [difference!.start, difference!.stop, difference!.otherStop];
+const indexes: HashIndexConstructor = y.HashIndex;
+const index: HashIndex = new indexes();
+const added: number = index.insert(new Set([hash, other]), [7, 8n]) + index.size;
+const numbers: (bigint | null)[] = [...index.find([hash]), index.get(root)];
+const entries: [Hash, bigint][] = index.has(hash) ? index.entries() : [];
+const savedIndex: SavedHashIndex = index.clone().saved;
+const restoredIndex: HashIndex = indexes.restore(JSON.parse(JSON.stringify(savedIndex)) as SavedHashIndex);
 const proof: RangeProof = tree.proof(place, BigInt(after));
 const sides: [Chunks, Chunks, number] = [proof.left(0), proof.right(0n), proof.numLevels];
 const flatProof: FlatProof = proof.toFlat();
@@ -142,7 +156,7 @@ const pieces: ReadableStream<Uint8Array> = remote.slice(0, 7).stream();
 const checked: string[] = [];
 for await (const it of new Blob([data]).stream().pipeThrough(opened.checking()) as unknown as AsyncIterable<Uint8Array>) checked.push(new TextDecoder().decode(it));
 const point: number | null = y.findStableStart(chunks) ?? y.findStableEnd(lists[0]!);
-const freed: Freed[] = [again, back];
+const freed: Freed[] = [again, back, restoredIndex];
 
 try {
     y.Subtree.fromJSON("[]");
@@ -432,6 +446,26 @@ export async function refused(): Promise<void> {
     const [begin, stop] = tree.chunksAt(0, 1);
     // @ts-expect-error places are BigInts
     const ends: [number, number] | null = tree.bytesOf(0, 1);
+    // @ts-expect-error files may be the same
+    tree.diff(tree).first;
+    // @ts-expect-error a place is a BigInt
+    const differs: number = difference!.start;
+    // @ts-expect-error a difference isn't of chunks
+    tree.diff(chunks);
+    // @ts-expect-error each hash has a number
+    index.insert([hash]);
+    // @ts-expect-error a number isn't a text
+    index.insert([hash], ["7"]);
+    // @ts-expect-error hashes are many
+    index.find(hash);
+    // @ts-expect-error a hash may have no number
+    index.get(hash).toString(16);
+    // @ts-expect-error the size isn't a call
+    index.size();
+    // @ts-expect-error an index is made empty
+    new y.HashIndex([hash]);
+    // @ts-expect-error numbers in a saved index are texts
+    y.HashIndex.restore([["00", 7]]);
     // @ts-expect-error a root isn't a call
     tree.root();
     // @ts-expect-error a file hash is a call
@@ -514,8 +548,9 @@ const salted = file !== null && file.equals(files[1]!) && file.equals(session.fi
 const listed = copies.every((it) => y.xorbHash(it).equals(root)) && last?.[1] === 200n && nodes.length === 1 && gaps.length === 1;
 const proven = `${place} ${after} ${bytesOf}` === "0 1 0,7" && `${sides[0].length} ${sides[1].length} ${sides[2]}` === "0 1 1" &&
     proofs.every((it) => it.equals(proof)) && `${places}` === "0,7,0,207" && part?.length === 2 && checked.join() === "a chunk" && byRoot.numChunks === 1;
+const indexed = `${added} ${numbers} ${entries.length} ${savedIndex.length} ${differing} ${differingBytes}` === "2 7, 1 1 0,1,0 0,7,0";
 const more = taken && told[3] === 1 && read.length === 4 && !cut === (hash.remainder(4n) !== 0n) && others.length === 2 && !inner.equals(hash);
 console.log(
-    same && hashed && salted && listed && more && classes.length === 5 && provers.length === 3 && proven && blobbed && kinds.length === 9 && source !== null && fresh === 2 && start > 0n &&
+    same && indexed && hashed && salted && listed && more && classes.length === 5 && provers.length === 3 && proven && blobbed && kinds.length === 9 && source !== null && fresh === 2 && start > 0n &&
         levels.length > 0 && parents >= 0 && point === null && `${first} ${rest[0]}`.length > 128,
 );

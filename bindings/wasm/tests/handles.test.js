@@ -44,6 +44,8 @@ const openedRange = (y) => y.RangeProof.fromChunks(list(y, 3), 1, 2).openRoot(y.
 function callsOf(y) {
     const range = () => y.Subtree.fromChunks(false, list(y, 3), false);
     const other = range();
+    const tree = y.HashTree.fromChunks(list(y, 2));
+    const hash = new y.Hash();
     return {
         Subtree: [range, [
             (it) => it.atStart, (it) => it.atEnd, (it) => it.totalSize, (it) => it.numNodes, (it) => it.numLevels, (it) => it.levels,
@@ -60,7 +62,11 @@ function callsOf(y) {
         ]],
         HashTree: [() => y.HashTree.fromChunks(list(y, 3)), [
             (it) => it.root, (it) => it.fileHash(), (it) => it.numChunks, (it) => it.totalSize, (it) => it.chunksAt(0, 1), (it) => it.bytesOf(0, 1),
-            (it) => it.proof(0, 1), (it) => it.proof(1, 0),
+            (it) => it.proof(0, 1), (it) => it.proof(1, 0), (it) => it.diff(tree), (it) => tree.diff(it), (it) => it.diff(it),
+        ]],
+        HashIndex: [() => new y.HashIndex(), [
+            (it) => it.size, (it) => it.insert([], []), (it) => it.find([]), (it) => it.get(hash), (it) => it.has(hash), (it) => it.entries(),
+            (it) => it.saved, (it) => it.clone(),
         ]],
         OpenedRange: [() => openedRange(y), [
             (it) => it.proof, (it) => it.fileSize, (it) => it.numChunks, (it) => it.begins(0), (it) => it.ends(0), (it) => it.check(0, new Uint8Array()),
@@ -86,6 +92,7 @@ function freeingCalls(y) {
     const hash = new y.Hash();
     const range = () => y.Subtree.fromChunks(false, list(y, 3), false);
     const session = () => new y.Session();
+    const index = () => new y.HashIndex();
     /** What frees an object before it gives the rest. */
     const freeing = (object, ...given) => ({
         *[Symbol.iterator]() {
@@ -95,6 +102,9 @@ function freeingCalls(y) {
     });
     return {
         keepHashes: [session, (it) => it.keepHashes(freeing(it, hash))],
+        "hashes of an index": [index, (it) => it.insert(freeing(it, hash), [1])],
+        "numbers of an index": [index, (it) => it.insert([hash], freeing(it, 1))],
+        find: [index, (it) => it.find(freeing(it, hash))],
         put: [session, (it) => it.put(0, freeing(it, [hash, 1]))],
         "a list of ranges": [range, (it) => y.Subtree.merge(freeing(it, it, range()))],
         "a list with a range twice": [range, (it) => y.Subtree.merge(freeing(it, it, it))],
@@ -180,7 +190,13 @@ test("every block goes back", async () => {
     }
     assert.equal(opened.check(0, new Uint8Array()), null);
     y.RangeProof.fromChunks(chunks, 3, 4);
-    made.push(tree, opened);
+    assert.equal(tree.diff(tree), null);
+    const index = new y.HashIndex();
+    index.insert(chunks.map(([hash]) => hash), chunks.map((_, k) => k));
+    index.clone().free();
+    y.HashIndex.restore(index.saved).free();
+    for (const given of [[[], [1]], [[1], [1]]]) assert.throws(() => index.insert(...given));
+    made.push(tree, opened, index);
     y.xorbHash(y.Chunks.from(list(y, 30_000)));
     for (const object of [front, back, run, session, ...made]) object.free();
     assert.equal(seen.blocks, before);
@@ -189,9 +205,9 @@ test("every block goes back", async () => {
 test("an object is freed by Symbol.dispose", async () => {
     const { yurewha: y, seen } = await counted();
     const before = seen.blocks;
-    for (const object of [y.Subtree.fromChunks(true, [], true), new y.Session(), y.HashTree.fromChunks([]), openedRange(y)]) {
+    for (const object of [y.Subtree.fromChunks(true, [], true), new y.Session(), new y.HashIndex(), y.HashTree.fromChunks([]), openedRange(y)]) {
         object[Symbol.dispose]();
-        assert.throws(() => object.numRuns ?? object.numNodes ?? object.numChunks, EmptyHandle);
+        assert.throws(() => object.numRuns ?? object.numNodes ?? object.numChunks ?? object.size, EmptyHandle);
     }
     assert.equal(seen.blocks, before);
 });
@@ -201,7 +217,9 @@ test("an object that nobody can reach is freed some time later", async () => {
     const before = seen.blocks;
     const kept = new y.Session();
     (() => {
-        const made = () => [y.Subtree.fromChunks(true, list(y, 5), false), new y.Session(), y.HashTree.fromChunks(list(y, 5)), openedRange(y)];
+        const made = () => [
+            y.Subtree.fromChunks(true, list(y, 5), false), new y.Session(), new y.HashIndex(), y.HashTree.fromChunks(list(y, 5)), openedRange(y),
+        ];
         for (let k = 0; k < 200; k++) made().forEach((it, n) => n + k === 0 && it.free());
     })();
     for (let k = 0; k < 50 && seen.blocks > before + 1; k++) {

@@ -8,7 +8,7 @@ import { BYTES, capped, chunksOf, pagesOf, wrapped } from "./support.js";
 
 const COUNT = 300;
 /** The calls of a scene that take no memory. */
-const TAKE_NONE = ["findStableStart", "findStableEnd", "a proof of bytes", "gaps"];
+const TAKE_NONE = ["findStableStart", "findStableEnd", "a proof of bytes", "gaps", "look-ups of an index", "entries of an index", "diff"];
 const plain = (range) => [range.atStart, range.atEnd, range.levels, Buffer.from(range.toFlat().nodes.bytes).toString("hex")];
 
 /** Objects of an instance, what they are, and calls on them, each with what it gives. */
@@ -32,8 +32,13 @@ function scene(y) {
     const [text, [fileHash, root]] = [proof.toJSON(), [tree.fileHash(), tree.root]];
     const told = (opened) => [opened.begins(0), opened.ends(99), opened.fileSize];
     const others = Array.from({ length: COUNT }, (_, k) => y.Hash.randomFromSeed(1000 + k));
+    const numbers = others.map((_, k) => k);
+    const index = new y.HashIndex();
+    index.insert(others.slice(0, 100), numbers.slice(0, 100));
+    const { saved: savedIndex } = index;
+    const shorter = y.HashTree.fromChunks(chunks.slice(0, 200));
     const state = () => [
-        plain(front), plain(back), session.numRuns, restored.numRuns, [0, 99, 100, 199, 200, 299, 300].map((position) => session.taken(position)), hash.hex(),
+        plain(front), plain(back), session.numRuns, restored.numRuns, index.size, index.find(others.slice(90, 110)), [0, 99, 100, 199, 200, 299, 300].map((position) => session.taken(position)), hash.hex(),
     ];
     const calls = {
         base64: () => hash.base64(),
@@ -59,6 +64,12 @@ function scene(y) {
         "a session of JSON": () => y.Session.fromJSON(sessionText).numRuns,
         runFrom: () => plain(session.runFrom(100)[2]),
         knownHashes: () => session.knownHashes().length,
+        "new HashIndex": () => new y.HashIndex().size,
+        "clone of an index": () => index.clone().size,
+        "restore of an index": () => y.HashIndex.restore(savedIndex).size,
+        "look-ups of an index": () => index.find(others),
+        "entries of an index": () => index.entries().length,
+        diff: () => tree.diff(shorter),
         "a tree": () => y.HashTree.fromChunks(chunks).numChunks,
         "a proof of a tree": () => tree.proof(100, 200).bytes,
         "a proof of chunks": () => y.RangeProof.fromChunks(chunks, 100, 200).bytes,
@@ -69,6 +80,7 @@ function scene(y) {
         openRoot: () => told(proof.openRoot(root)),
         // These change an object, so they come last.
         pushRun: () => [restored.pushRun(400, 500, middle), restored.numRuns],
+        "insert into an index": () => [index.insert(others, numbers), index.size],
         keepHashes: () => [restored.keepHashes(others), restored.knownHashes().length],
         put: () => [session.put(100, chunks.slice(100, 200)), session.numRuns],
         root: () => session.root(COUNT).hex(),
@@ -197,8 +209,10 @@ test("wasm32: what an object held is used again after it was freed", async () =>
     const put = (session) => session.put(0, chunks) && session;
     const proof = y.RangeProof.fromChunks(chunks, 0, 5000);
     const root = y.xorbHash(chunks);
+    const saved = [...chunks].map(([hash], k) => [hash.hex(), `${k}`]);
     const makers = [
         () => y.Subtree.fromChunks(false, chunks, false), () => put(new y.Session()), () => y.HashTree.fromChunks(chunks), () => proof.openRoot(root),
+        () => y.HashIndex.restore(saved),
     ];
     for (const make of makers) {
         make().free();

@@ -14,6 +14,12 @@ const sessionOf = (...puts) => {
     puts.forEach(([first, count]) => session.put(first, list(count)));
     return session;
 };
+/** An index of these seeds of hashes, each with a number. */
+const indexOf = (...entries) => {
+    const index = new y.HashIndex();
+    index.insert(entries.map(([seed]) => y.Hash.randomFromSeed(seed)), entries.map(([, number]) => number));
+    return index;
+};
 const treeOf = (count) => y.HashTree.fromChunks(list(count));
 const proofOf = (first, end) => y.RangeProof.fromChunks(list(30), first, end);
 const rangeOf = (first, end) => proofOf(first, end).openRoot(y.xorbHash(list(30)));
@@ -33,6 +39,7 @@ const KINDS = {
         () => y.Subtree.fromChunks(false, list(100), false),
         () => y.Subtree.fromChunks(false, list(101), false),
     ],
+    HashIndex: [() => indexOf(), () => indexOf([1, 7]), () => indexOf([2, 7]), () => indexOf([1, 8]), () => indexOf([1, 7], [2, 7])],
     HashTree: [() => treeOf(0), () => treeOf(1), () => treeOf(30), () => treeOf(31)],
     RangeProof: [() => proofOf(0, 1), () => proofOf(0, 2), () => proofOf(7, 9)],
     OpenedRange: [() => rangeOf(0, 1), () => rangeOf(0, 2), () => rangeOf(7, 9)],
@@ -59,6 +66,9 @@ test("a comparison sees what an object has become", () => {
     const session = sessionOf([0, 3]);
     session.put(7, list(2));
     assert.deepStrictEqual(session, sessionOf([0, 3], [7, 2]));
+    const index = indexOf([2, 7]);
+    index.insert([y.Hash.randomFromSeed(1)], [8]);
+    assert.deepStrictEqual(index, indexOf([1, 8], [2, 7]));
 });
 
 test("a session is saved alike, in whatever order its chunks were put", () => {
@@ -115,6 +125,7 @@ test("a structured clone is a plain object with the value, which no call takes",
     const hash = y.Hash.randomFromSeed(7);
     assert.deepStrictEqual(structuredClone(hash), { bytes: hash.bytes });
     assert.deepStrictEqual(structuredClone(y.Chunks.from(list(2))), { bytes: y.Chunks.from(list(2)).bytes });
+    assert.deepStrictEqual(structuredClone(indexOf([3, 2])), { saved: indexOf([3, 2]).saved });
     assert.deepStrictEqual(structuredClone(sessionOf([3, 2])), { saved: sessionOf([3, 2]).saved });
     assert.deepStrictEqual(structuredClone(proofOf(7, 9)), { bytes: proofOf(7, 9).bytes });
     assert.deepStrictEqual(structuredClone(rangeOf(7, 9)), { proof: { bytes: proofOf(7, 9).bytes } });
@@ -248,6 +259,7 @@ test("Node's console shows what an object is", () => {
     assert.equal(plain(range), "Subtree { atStart: true, atEnd: false, totalSize: 7n, numLevels: 1, numNodes: 1 }");
     assert.equal(plain(sessionOf([4, 3])), "Session { numChunks: 3n, totalSize: 3231n, numRuns: 1 }");
     assert.equal(plain(new y.Hasher().update(Uint8Array.of(1, 2))).slice(0, 24), "Hasher { count: 2n, hash");
+    assert.equal(plain(indexOf([1, 7], [2, 7])), "HashIndex { size: 2 }");
     assert.equal(plain(y.HashTree.fromChunks([[hash, 7]])), `HashTree { numChunks: 1, totalSize: 7n, root: Hash(${hash.hex()}) }`);
     const proof = y.RangeProof.fromChunks([[hash, 7]], 0, 1);
     assert.equal(plain(proof), "RangeProof { chunks: Chunks(1) [ [ [Hash], 7n ] ], numLevels: 0 }");

@@ -103,6 +103,13 @@ export function makeHash(library) {
             return new Hash(library.read(pointers.at(-1), HASH_LENGTH));
         });
     }
+    /** The bytes of some hashes, side by side. */
+    const packedHashes = (hashes) => {
+        const listed = [...hashes];
+        const block = new Uint8Array(HASH_LENGTH * listed.length);
+        listed.forEach((hash, k) => block.set(rawOf(hash, `hash ${k}`), HASH_LENGTH * k));
+        return block;
+    };
     /** The hashes that stand side by side. */
     const unpacked = (block) =>
         Array.from({ length: block.length / HASH_LENGTH }, (_, k) => new Hash(block.subarray(HASH_LENGTH * k, HASH_LENGTH * (k + 1))));
@@ -120,5 +127,5 @@ export function makeHash(library) {
             library.check(library.call(name, hash, room, BigInt(length), out));
             return decoder.decode(library.read(room, length));
         });
-    return { Hash, rawOf, result, unpacked, hmac };
+    return { Hash, rawOf, result, packedHashes, unpacked, hmac };
 }

@@ -1,6 +1,6 @@
 // Hash trees: all levels of nodes over a list of chunks, which make range proofs.
 
-import { u64 } from "./arguments.js";
+import { u64, wrongType } from "./arguments.js";
 import { CHUNK_LENGTH } from "./chunks.js";
 import { STATUS } from "./errors.js";
 import { Handle, Handles, disposable } from "./handle.js";
@@ -11,9 +11,19 @@ import { inspected, showing } from "./shown.js";
 /** The class `HashTree` over a library. `written` makes the proof that a call writes. */
 export function makeHashTree(library, { result }, { packedOf }, written) {
     const handles = new Handles(library, "yurewha_hash_tree_free");
+    let treeOf;
 
     class HashTree {
         #handle;
+
+        static {
+            treeOf = (tree) => {
+                if (typeof tree !== "object" || tree === null || !(#handle in tree)) {
+                    throw wrongType("the other", "be a HashTree of the same module", tree);
+                }
+                return tree;
+            };
+        }
 
         constructor(handle) {
             if (!(handle instanceof Handle)) throw new TypeError("a HashTree is made by fromChunks");
@@ -68,15 +78,32 @@ export function makeHashTree(library, { result }, { packedOf }, written) {
             });
         }
 
+        diff(other) {
+            const its = treeOf(other);
+            const [count, otherCount] = [this, its].map((tree) => tree.#told("yurewha_hash_tree_num_chunks"));
+            const first = this.#told("yurewha_hash_tree_common_prefix", its.#handle.pointer);
+            const most = (count < otherCount ? count : otherCount) - first;
+            const after = this.#told("yurewha_hash_tree_common_suffix", its.#handle.pointer, most);
+            const [end, otherEnd] = [count - after, otherCount - after];
+            if (end === first && otherEnd === first) return null;
+            const [start, stop, otherStop] = [this.#beginOf(first), this.#beginOf(end), its.#beginOf(otherEnd)];
+            return { first: Number(first), end: Number(end), otherEnd: Number(otherEnd), start, stop, otherStop };
+        }
+
         free() {
             this.#handle.free();
         }
 
+        /** Where a chunk begins, or the size of the file if there are no more chunks. */
+        #beginOf(chunk) {
+            return this.#pair("yurewha_hash_tree_bytes_of", 0n, chunk)?.[1] ?? 0n;
+        }
+
         /** A number that a call writes. */
-        #told(name) {
+        #told(name, ...given) {
             const { pointer } = this.#handle;
             return library.over([8], (out) => {
-                library.check(library.call(name, pointer, out));
+                library.check(library.call(name, pointer, ...given, out));
                 return library.u64(out);
             });
         }

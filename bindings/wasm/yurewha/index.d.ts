@@ -9,7 +9,7 @@
  * Objects keep their bytes in private members. What comparisons need is an own property of each, so `deepStrictEqual` of two
  * objects compares their values. A structured clone is a plain object with these properties, and no call takes it. To hand an
  * object to a worker, send what it can be made of again: `bytes` of a `Hash`, `Chunks` or `RangeProof`, `toJSON()` of a
- * `Subtree` or `Session`.
+ * `Subtree` or `Session`, `saved` of a `HashIndex`.
  */
 
 declare global {
@@ -19,7 +19,7 @@ declare global {
     }
 }
 
-/** A size, a position or a seed: a `BigInt` or a safe integer, from 0 to 2^64 - 1. A number outside that range is a
+/** A size, a position, a seed or another number: a `BigInt` or a safe integer, from 0 to 2^64 - 1. A number outside that range is a
  * `RangeError`. Anything else is a `TypeError`. */
 export type U64 = bigint | number;
 
@@ -56,6 +56,7 @@ export interface Yurewha {
     readonly Hasher: HasherConstructor;
     readonly Subtree: SubtreeConstructor;
     readonly Session: SessionConstructor;
+    readonly HashIndex: HashIndexConstructor;
     readonly HashTree: HashTreeConstructor;
     readonly RangeProof: RangeProofConstructor;
     readonly OpenedRange: OpenedRangeConstructor;
@@ -593,6 +594,62 @@ export interface SavedSession {
 }
 
 /**
+ * A number for each of some hashes, such as where the chunk with this hash stands. The number that came first stays.
+ *
+ * A call that throws leaves the index unchanged. Any call may throw `OutOfMemory`, if the memory can't grow.
+ *
+ * @example
+ * ```js
+ * const [one, two, three] = [1, 2, 3].map((seed) => y.Hash.randomFromSeed(seed));
+ * const index = new y.HashIndex();
+ * console.log(index.insert([one, two, one], [0, 1, 2])); // 2
+ * console.log(index.find([one, two, three])); // [ 0n, 1n, null ]
+ * console.log(index.insert([two, three], [7, 8]), index.get(two), index.size); // 1 1n 3
+ * index.free();
+ * ```
+ */
+export interface HashIndex extends Freed {
+    /** How many hashes have a number. */
+    readonly size: number;
+
+    /** Gives each hash of a list the number at the same place of the other list, unless the hash has one already: the number that came
+     * first stays, also among those of one call. Returns how many hashes are new, each counted once.
+     * @throws InvalidArguments the lists have different lengths */
+    insert(hashes: Iterable<Hash>, numbers: Iterable<U64>): number;
+
+    /** Returns the number of each hash of a list, or null where a hash has none. */
+    find(hashes: Iterable<Hash>): (bigint | null)[];
+
+    /** Returns the number of a hash, or null if it has none. */
+    get(hash: Hash): bigint | null;
+
+    /** Returns whether a hash has a number. */
+    has(hash: Hash): boolean;
+
+    /** Returns all hashes with their numbers, each hash once, in no particular order. */
+    entries(): [hash: Hash, number: bigint][];
+
+    /** The whole index as a list of texts, of which `restore` makes it again, also from a structured clone. */
+    readonly saved: SavedHashIndex;
+
+    /** Returns an index in which each hash has the same number. */
+    clone(): HashIndex;
+}
+
+export interface HashIndexConstructor {
+    /** Makes an index without hashes. */
+    new (): HashIndex;
+    readonly prototype: HashIndex;
+
+    /** Makes an index of what `saved` returned, perhaps in another instance. Errors are those of `Hash.fromHex`, and a `TypeError` or
+     * `RangeError` if a number isn't one in decimal digits, or is more than 2^64 - 1. */
+    restore(saved: SavedHashIndex): HashIndex;
+}
+
+/** The hex text of each hash, in rising order, with its number in decimal digits. */
+export type SavedHashIndex = readonly (readonly [hash: string, number: string])[];
+
+/**
  * All levels of nodes over a list of chunks, kept so that a proof takes time with the number of levels and of its own nodes, and not
  * with the number of chunks. Chunks and bytes count from 0.
  *
@@ -633,6 +690,34 @@ export interface HashTree extends Freed {
      * whatever the salt, and under their root.
      * @throws InvalidArguments the range has no chunk, or one that isn't in the list */
     proof(first: U64, end: U64): RangeProof;
+
+    /**
+     * Returns where this file and another one differ, or null if they have the same chunks. The chunks before are as many as the two
+     * have in common at the front, and those after as many of the rest as they have in common at the end. The time is in proportion to
+     * their number. So whoever has the other file needs only the bytes of this one from `start` up to, but not including, `stop`.
+     *
+     * @example
+     * ```js
+     * const [a, b, c, d] = [1, 2, 3, 4].map((seed) => [y.Hash.randomFromSeed(seed), 100]);
+     * const [older, newer] = [[a, b, c], [a, d, d, c]].map((chunks) => y.HashTree.fromChunks(chunks));
+     * const { first, end, otherEnd, start, stop, otherStop } = newer.diff(older);
+     * console.log(first, end, otherEnd, start, stop, otherStop); // 1 3 2 100n 300n 200n
+     * console.log(newer.diff(newer)); // null
+     * ```
+     */
+    diff(other: HashTree): Difference | null;
+}
+
+/** Where two files differ: the chunks from `first` up to, but not including, `end` of the one stand where the other has its chunks from
+ * `first` up to, but not including, `otherEnd`. All chunks before and after are the same in both, and some between may be, too. `start`,
+ * `stop` and `otherStop` are these places in bytes. Chunks and bytes count from 0. */
+export interface Difference {
+    readonly first: number;
+    readonly end: number;
+    readonly otherEnd: number;
+    readonly start: bigint;
+    readonly stop: bigint;
+    readonly otherStop: bigint;
 }
 
 export interface HashTreeConstructor {

@@ -2,6 +2,7 @@
 
 import { makeChunks } from "./chunks.js";
 import { makeHash } from "./hash.js";
+import { makeHashIndex } from "./hash_index.js";
 import { makeHashTree } from "./hash_tree.js";
 import { makeHashing } from "./hasher.js";
 import { makeOpenedRange } from "./opened_range.js";
@@ -24,6 +25,7 @@ export function instanceOver(library) {
         Chunks: lists.Chunks,
         Subtree: subtrees.Subtree,
         Session: makeSession(library, hashes, lists, subtrees),
+        HashIndex: makeHashIndex(library, hashes),
         HashTree,
         RangeProof: proofs.RangeProof,
         OpenedRange: ranges.OpenedRange,

@@ -36,7 +36,7 @@ function listsOf(saved) {
 }
 
 /** The class `Session` over a library. */
-export function makeSession(library, { Hash, rawOf, result, unpacked }, { packedOf }, { Subtree, owned, pointerOf }) {
+export function makeSession(library, { Hash, rawOf, result, packedHashes, unpacked }, { packedOf }, { Subtree, owned, pointerOf }) {
     const handles = new Handles(library, "yurewha_session_free");
 
     // A caller's iterators and getters may free the session. So each call takes the pointer after the last of them has run.
@@ -184,12 +184,10 @@ export function makeSession(library, { Hash, rawOf, result, unpacked }, { packed
         }
 
         keepHashes(hashes) {
-            const listed = [...hashes];
-            const packed = new Uint8Array(HASH_LENGTH * listed.length);
-            listed.forEach((hash, k) => packed.set(rawOf(hash, `hash ${k}`), HASH_LENGTH * k));
+            const packed = packedHashes(hashes);
             const { pointer } = this.#handle;
             library.over([packed], (at) => {
-                library.check(library.call("yurewha_session_keep_hashes", pointer, at, BigInt(listed.length)), KEEPS_NONE);
+                library.check(library.call("yurewha_session_keep_hashes", pointer, at, BigInt(packed.length / HASH_LENGTH)), KEEPS_NONE);
             });
         }
 
