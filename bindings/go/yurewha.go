@@ -1,8 +1,8 @@
 // Package yurewha computes the hashes of the Hugging Face Xet store, and merges adjacent ranges of chunks. It makes the calls of the C
 // library through cgo, which finds that by pkg-config, and computes nothing itself. The header yurewha.h says more about each call.
 //
-// A Subtree and a Session own memory of the library. Close frees it, and so does the garbage collector once nothing refers to them. After
-// Close, each call of them returns ErrEmptyHandle. Goroutines may share them: calls of one object take turns.
+// A Subtree, a Session and a HashIndex own memory of the library. Close frees it, and so does the garbage collector once nothing refers to
+// them. After Close, each call of them returns ErrEmptyHandle. Goroutines may share them: calls of one object take turns.
 package yurewha
 
 /*
@@ -75,6 +75,27 @@ func chunksPointer(chunks []Chunk) *C.yurewha_chunk {
 		return nil
 	}
 	return (*C.yurewha_chunk)(unsafe.Pointer(&chunks[0]))
+}
+
+func hashesPointer(hashes []Hash) *C.yurewha_hash {
+	if len(hashes) == 0 {
+		return nil
+	}
+	return hashes[0].pointer()
+}
+
+func numbersPointer(numbers []uint64) *C.uint64_t {
+	if len(numbers) == 0 {
+		return nil
+	}
+	return (*C.uint64_t)(&numbers[0])
+}
+
+func truthsPointer(truths []bool) *C.uint8_t {
+	if len(truths) == 0 {
+		return nil
+	}
+	return (*C.uint8_t)(unsafe.Pointer(&truths[0]))
 }
 
 // String returns the 64 hex digits of a hash.
@@ -345,4 +366,80 @@ func (s *Session) Close() {
 	s.lock.Lock()
 	defer s.lock.Unlock()
 	C.yurewha_session_free(&s.handle)
+}
+
+// A HashIndex has a number for each of some hashes, such as where the chunk with this hash stands. The number that came first stays.
+type HashIndex struct {
+	lock   sync.Mutex
+	handle C.yurewha_hash_index
+}
+
+// NewHashIndex returns an index without hashes.
+func NewHashIndex() (*HashIndex, error) {
+	x := new(HashIndex)
+	if err := check(C.yurewha_hash_index_new(&x.handle)); err != nil {
+		return nil, err
+	}
+	runtime.SetFinalizer(x, (*HashIndex).Close)
+	return x, nil
+}
+
+// Insert gives each hash the number at the same place of the other list, unless the hash has one already: the number that came first stays,
+// also among those of one call. It returns how many hashes are new, each counted once, or ErrArguments if the lists have different lengths.
+func (x *HashIndex) Insert(hashes []Hash, numbers []uint64) (int, error) {
+	x.lock.Lock()
+	defer x.lock.Unlock()
+	var fresh C.size_t
+	err := check(C.yurewha_hash_index_insert(&x.handle, hashesPointer(hashes), C.size_t(len(hashes)), numbersPointer(numbers), C.size_t(len(numbers)), &fresh))
+	return int(fresh), err
+}
+
+// Find returns the number of each hash, and whether it has one. The number of a hash that has none is 0.
+func (x *HashIndex) Find(hashes []Hash) (numbers []uint64, found []bool, err error) {
+	x.lock.Lock()
+	defer x.lock.Unlock()
+	count := C.size_t(len(hashes))
+	numbers, found = make([]uint64, len(hashes)), make([]bool, len(hashes))
+	err = check(C.yurewha_hash_index_find(&x.handle, hashesPointer(hashes), count, truthsPointer(found), count, numbersPointer(numbers), count))
+	return
+}
+
+// Get returns the number of a hash, and whether it has one.
+func (x *HashIndex) Get(hash Hash) (number uint64, found bool, err error) {
+	numbers, founds, err := x.Find([]Hash{hash})
+	return numbers[0], founds[0], err
+}
+
+// Len returns how many hashes have a number.
+func (x *HashIndex) Len() (int, error) {
+	x.lock.Lock()
+	defer x.lock.Unlock()
+	return x.len()
+}
+
+func (x *HashIndex) len() (int, error) {
+	var count C.size_t
+	err := check(C.yurewha_hash_index_len(&x.handle, &count))
+	return int(count), err
+}
+
+// Entries returns all hashes, each once and in no particular order, and the number of each at the same place of the other list.
+func (x *HashIndex) Entries() (hashes []Hash, numbers []uint64, err error) {
+	x.lock.Lock()
+	defer x.lock.Unlock()
+	length, err := x.len()
+	if err != nil {
+		return nil, nil, err
+	}
+	count := C.size_t(length)
+	hashes, numbers = make([]Hash, length), make([]uint64, length)
+	err = check(C.yurewha_hash_index_entries(&x.handle, hashesPointer(hashes), count, numbersPointer(numbers), count))
+	return
+}
+
+// Close frees the memory of an index.
+func (x *HashIndex) Close() {
+	x.lock.Lock()
+	defer x.lock.Unlock()
+	C.yurewha_hash_index_free(&x.handle)
 }

@@ -4,6 +4,7 @@ import (
 	"encoding/json"
 	"fmt"
 	"io"
+	"math/rand"
 	"os"
 	"runtime"
 	"strings"
@@ -203,10 +204,83 @@ func TestASessionTakesChunksInAnyOrder(t *testing.T) {
 	expect(t, must(light.Put(3, list)), uint64(3))
 }
 
+func TestTheNumberOfAHashThatCameFirstStays(t *testing.T) {
+	index, one, two, three := must(NewHashIndex()), Hash{1}, Hash{2}, Hash{3}
+	expect(t, must(index.Insert([]Hash{one, two, one}, []uint64{0, 1<<64 - 1, 5})), 2)
+	expect(t, must(index.Insert([]Hash{two, one}, []uint64{6, 7})), 0)
+	expect(t, must(index.Insert(nil, nil)), 0)
+	numbers, found, err := index.Find([]Hash{three, two, one})
+	expect(t, fmt.Sprint(numbers, found, err), fmt.Sprint([]uint64{0, 1<<64 - 1, 0}, []bool{false, true, true}, nil))
+	for hash, wanted := range map[Hash]string{one: "0 true <nil>", two: "18446744073709551615 true <nil>", three: "0 false <nil>"} {
+		number, found, err := index.Get(hash)
+		expect(t, fmt.Sprint(number, found, err), wanted)
+	}
+	_, err = index.Insert([]Hash{three}, nil)
+	expect(t, err, ErrArguments)
+	expect(t, must(index.Len()), 2)
+	hashes, numbers, err := index.Entries()
+	entries := map[Hash]uint64{}
+	for i, hash := range hashes {
+		entries[hash] = numbers[i]
+	}
+	expect(t, fmt.Sprint(entries, len(hashes), err), fmt.Sprint(map[Hash]uint64{one: 0, two: 1<<64 - 1}, 2, nil))
+
+	index.Close()
+	index.Close()
+	for _, call := range []func() error{
+		func() error { _, err := index.Insert(nil, nil); return err },
+		func() error { _, _, err := index.Find(nil); return err },
+		func() error { _, _, err := index.Get(one); return err },
+		func() error { _, err := index.Len(); return err },
+		func() error { _, _, err := index.Entries(); return err },
+	} {
+		expect(t, call(), ErrEmptyHandle)
+	}
+}
+
+func TestDrawnHashesHaveTheNumbersOfAMap(t *testing.T) {
+	draws := rand.New(rand.NewSource(66))
+	// Hashes that have words in common, so that no single word tells them apart.
+	drawn := func() (hash Hash) {
+		for i := range hash {
+			hash[i] = []uint64{0, 1, 1<<64 - 1}[draws.Intn(3)]
+		}
+		return
+	}
+	for round := 0; round < 100; round++ {
+		index, wanted := must(NewHashIndex()), map[Hash]uint64{}
+		for puts := draws.Intn(6); puts > 0; puts-- {
+			hashes, numbers := make([]Hash, draws.Intn(40)), []uint64{}
+			before := len(wanted)
+			for i := range hashes {
+				hashes[i] = drawn()
+				numbers = append(numbers, draws.Uint64())
+				if _, known := wanted[hashes[i]]; !known {
+					wanted[hashes[i]] = numbers[i]
+				}
+			}
+			expect(t, must(index.Insert(hashes, numbers)), len(wanted)-before)
+		}
+		expect(t, must(index.Len()), len(wanted))
+		hashes, numbers, err := index.Entries()
+		expect(t, err, nil)
+		expect(t, len(hashes), len(wanted))
+		for i, hash := range hashes {
+			expect(t, numbers[i], wanted[hash])
+		}
+		for i := 0; i < 50; i++ {
+			hash := drawn()
+			number, found, err := index.Get(hash)
+			wantedNumber, known := wanted[hash]
+			expect(t, fmt.Sprint(number, found, err), fmt.Sprint(wantedNumber, known, nil))
+		}
+	}
+}
+
 func TestGoroutinesShareObjects(t *testing.T) {
 	list := chunks("a chunk", "another", "and a third")
 	open, file := must(NewSubtree(false, list, false)), must(NewSubtree(true, list, true))
-	session := must(NewSession())
+	session, index := must(NewSession()), must(NewHashIndex())
 	var group sync.WaitGroup
 	for i := 0; i < 8; i++ {
 		group.Add(1)
@@ -218,10 +292,16 @@ func TestGoroutinesShareObjects(t *testing.T) {
 				expect(t, own.MergeInto(open), nil)
 				must(session.Put(uint64(3*(100*i+k)), list))
 				_ = must(NewSession())
+				must(index.Insert([]Hash{{uint64(k)}}, []uint64{uint64(k)}))
+				number, found, err := must(NewHashIndex()).Get(Hash{uint64(k)})
+				expect(t, fmt.Sprint(number, found, err), "0 false <nil>")
+				number, found, err = index.Get(Hash{uint64(k)})
+				expect(t, fmt.Sprint(number, found, err), fmt.Sprint(k, true, nil))
 			}
 			runtime.GC()
 		}(i)
 	}
 	group.Wait()
 	must(session.Root(2400))
+	expect(t, must(index.Len()), 100)
 }
