@@ -208,6 +208,11 @@ all_chunks: y.Chunks = hash_tree.chunks
 index: y.HashIndex = y.HashIndex([root, bytes(32)])
 are_known: List[bool] = index.contains(many)
 fresh: int = index.add_all(many) + index.add(root) + len(index) + len(index.new(many)) + len(many[are_known])
+difference: Optional[y.Difference] = hash_tree.diff(y.HashTree(packed))
+if difference is not None:
+    changed_chunks = packed[difference.first:difference.end] + packed[difference.first:difference.other_end]
+    _, _, _, start, stop, other_stop = difference
+    read = read[start:stop] + read[difference.start:other_stop]
 
 
 # Public names of types.

@@ -539,6 +539,11 @@ session.load(["session"])
 y.HashIndex("00")
 y.HashIndex().add("00")
 y.HashIndex().add_all(hash_)
+hash_tree.diff(chunks)
+hash_tree.diff(None)
+hash_tree.diff(hash_tree).first
+y.Difference(0, 1, 2, 3, 4)
+y.Difference(0, 1, 2, 3, 4, None)
 index_key: Hashable = y.HashIndex()
 class MyIndex(y.HashIndex): pass
 class MyAsyncFile(y.AsyncVerifiedFile): pass

@@ -243,6 +243,8 @@ REFUSED = [
         lambda: freed_hash_tree().proof(0, 1),
         lambda: freed_hash_tree().proof_of_bytes(0, 1),
         lambda: pickle.dumps(freed_hash_tree()),
+        lambda: freed_hash_tree().diff(TREE),
+        lambda: TREE.diff(freed_hash_tree()),
         lambda: y.OpenedRange.__new__(y.OpenedRange).num_chunks,
         lambda: freed_range().num_chunks,
         lambda: freed_range().file_size,
@@ -458,6 +460,7 @@ TOLD = [
     (f"the size of chunk 0 {U64} {MAX + 1}", lambda: y.xorb_hash([(Z, MAX + 1)])),
     *((f"size 2 {U64} -3", lambda code=code: y.Chunks.from_columns(4 * [Z], array.array(code, [1, 2, -3, -4]))) for code in "bhilq"),
     (f"size 1 {U64} -3", lambda: y.Chunks.from_columns([Z, Z], [1, -3])),
+    ("a HashTree must be compared with a HashTree, got list", lambda: TREE.diff([ONE])),
     (f"position {U64} -1", lambda: session().put(-1, [ONE])),
     (f"position {U64} a number of 5001 bits", lambda: session().taken(1 << 5000)),
     (f"position {U64} a number of 129 bits", lambda: session().taken(1 << 128)),
@@ -583,6 +586,7 @@ def deep_calls():
         lambda: repr(opened()), lambda: opened().ends(0), lambda: file_range.check(0, memoryview(great)),
         lambda: file_range.read(3, 5, great).tobytes(), lambda: pickle.loads(pickle.dumps(PROOF)).levels,
         lambda: y.VerifiedFile(file.file_hash(), lambda start, stop: great, file.proof_of_bytes, chunk_limit=len(great)).read(7),
+        lambda: TREE.diff(file),
         lambda: y.data_hash(b"abc"), lambda: y.Hasher(b"abc").count, lambda: kept.read_at(3, 5), lambda: str(Z), lambda: y.Hash() > y.Hash(),
     ]
 
@@ -742,6 +746,7 @@ def test_no_leak():
             pickle.loads(pickle.dumps(one))
             y.Hasher(bytes(1000)).copy().digest()
             hash_tree = y.HashTree(chunks)
+            hash_tree.diff(y.HashTree(chunks[1:]))
             proof = y.RangeProof.from_json(hash_tree.proof(7, 20).to_json())
             pickle.loads(pickle.dumps(proof)).open_root(hash_tree.root).begins(3)
             for call in (lambda: tree + closed_tree(), lambda: y.Subtree.from_json("[]"), lambda: proof.open(Z),

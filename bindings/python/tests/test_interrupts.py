@@ -101,6 +101,7 @@ CALLS = {
     "Subtree.merge": lambda chunks: (lambda tree, other: lambda: tree.merge(other))(whole(chunks), whole(chunks)),
     "Subtree.merge_all": lambda chunks: (lambda tree: lambda: y.Subtree.merge_all([tree, tree]))(whole(chunks)),
     "Subtree.from_json": lambda chunks: (lambda text: lambda: y.Subtree.from_json(text))(bytes(_interrupts.MANY_BYTES)),
+    "HashTree.diff": lambda chunks: (lambda tree, other: lambda: tree.diff(other))(y.HashTree(chunks), y.HashTree(chunks[:-1])),
     "HashTree.proof": lambda chunks: (lambda tree: lambda: tree.proof(0, COUNT))(y.HashTree(chunks)),
     "RangeProof.open": lambda chunks: (lambda proof: lambda: proof.open_root(y.Hash()))(y.HashTree(chunks).proof(0, COUNT)),
     "RangeProof.from_json": lambda chunks: (lambda text: lambda: y.RangeProof.from_json(text))(bytes(_interrupts.MANY_BYTES)),

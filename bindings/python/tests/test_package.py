@@ -89,7 +89,7 @@ def test_the_structs_are_those_of_the_header(tmp_path):
         "yurewha_hash": ["words"], "yurewha_bytes": ["bytes"], "yurewha_chunk": ["hash", "size"],
         "yurewha_level": ["left", "right"], "yurewha_hasher": ["state"], "yurewha_subtree": ["at"],
         "yurewha_session": ["at"], "yurewha_hash_tree": ["at"], "yurewha_opened_range": ["at"], "yurewha_reader": ["at"],
-        "yurewha_part": ["at"],
+        "yurewha_part": ["at"], "yurewha_hash_index": ["at"],
     }
     expected = []
     for name, size in _declarations.STRUCTS.items():

@@ -110,6 +110,21 @@ def test_two_subtrees_merged_both_ways():
     run(there, back, there, back)
 
 
+def test_two_hash_trees_compared_both_ways():
+    chunks = block(9, 600)
+    one, other = y.HashTree(chunks), y.HashTree(chunks[:300] + chunks[301:])
+
+    def there():
+        for _ in range(300):
+            assert one.diff(other)[:3] == (300, 301, 300) and one.diff(one) is None
+
+    def back():
+        for _ in range(300):
+            assert other.diff(one)[:3] == (300, 300, 301)
+
+    run(there, back, there, back)
+
+
 def test_one_hasher_shared():
     hasher = y.Hasher()
     piece = bytes(5000)
@@ -210,6 +225,10 @@ def trees():
     return (y.HashTree(CHUNKS_OF_DATA),)
 
 
+def two_trees():
+    return y.HashTree(block(1, 40)), y.HashTree(block(1, 300))
+
+
 def ranges():
     tree = y.HashTree(CHUNKS_OF_DATA)
     return (tree.proof(0, 2).open_root(tree.root),)
@@ -241,6 +260,7 @@ USES = {
         lambda tree: tree.root, lambda tree: tree.file_hash(), lambda tree: tree.num_chunks, lambda tree: tree.total_size,
         lambda tree: tree.chunks_at(0, 7), lambda tree: tree.bytes_of(0, 2), lambda tree: tree.proof(0, 2),
         lambda tree: tree.proof_of_bytes(0, 7), lambda tree: pickle.dumps(tree), repr],
+    two_trees: [lambda one, other: one.diff(other), lambda one, other: other.diff(one), lambda one, other: one.diff(one)],
     ranges: [
         lambda range_: range_.file_size, lambda range_: range_.num_chunks, lambda range_: range_.begins(1),
         lambda range_: range_.ends(1), lambda range_: range_.check(0, DATA), lambda range_: range_.check(1, bytearray(b"abc")),
@@ -302,6 +322,28 @@ def test_an_object_is_freed_once_and_under_its_lock(monkeypatch, make, by_hand):
     del item
     gc.collect()
     assert freed == [1]
+
+
+class Ordered(Noted):
+    """A lock that no thread takes while it has one that comes later."""
+
+    later: tuple = ()
+
+    def __enter__(self):
+        assert self.held or not any(lock.held for lock in self.later), "another thread may have the one lock, and wait for the other"
+        super().__enter__()
+
+
+@pytest.mark.parametrize("turned", [False, True])
+@pytest.mark.parametrize("make, number", [(make, number) for make in (subtrees, two_trees) for number in range(len(USES[make]))])
+def test_a_call_takes_two_locks_in_one_order(make, number, turned):
+    """Whichever object comes first in it. Else two threads might wait for each other."""
+    first, last = items = sorted(make(), key=id)
+    for item in items:
+        item._lock = Ordered(item._lock)
+    first._lock.later = (last._lock,)
+    USES[make][number](*(reversed(items) if turned else items))
+    assert first._lock.held == last._lock.held == 0 < first._lock.taken + last._lock.taken
 
 
 def test_threads_take_two_locks_in_one_order():

@@ -40,7 +40,7 @@ from ._errors import (
 from ._files import hash_chunks
 from ._hash import Hash, Hasher, data_hash, internal_node_hash
 from ._hash_index import HashIndex
-from ._hash_tree import HashTree
+from ._hash_tree import Difference, HashTree
 from ._hashes import Hashes, data_hashes
 from ._many_lists import file_hashes, xorb_hashes
 from ._range_proof import OpenedRange, RangeProof
@@ -63,6 +63,7 @@ __all__ = [
     "AsyncVerifiedFile",
     "BrokenRule",
     "Chunks",
+    "Difference",
     "DivisionByZero",
     "EmptyHandle",
     "Flat",

@@ -1,13 +1,13 @@
-"""Hash trees, which make range proofs."""
+"""Hash trees, which make range proofs, and say how two files differ."""
 
 from __future__ import annotations
 
 import ctypes
-from typing import Optional, Tuple, Type, final
+from typing import NamedTuple, Optional, Tuple, Type, final
 
 from ._chunks import Chunks, ChunksLike
-from ._errors import InvalidArguments, YurewhaError, counted, error_of
-from ._guard import Handle
+from ._errors import InvalidArguments, YurewhaError, but_got, counted, error_of
+from ._guard import Handle, both_locked
 from ._hash import Hash, checked_32, checked_u64
 from ._interrupts import MANY_NODES, interruptible
 from ._library import LONG_CHUNKS, LONG_NODES, CChunk, CHash, CHashTree, CLevel, calls_for, short
@@ -15,11 +15,30 @@ from ._range_proof import MOST_LEVELS, RangeProof
 from ._saving import Path, read_whole, write_whole
 from ._types import BytesLike
 
-__all__ = ["HashTree"]
+__all__ = ["Difference", "HashTree"]
 
 _CHUNK_SIZE = ctypes.sizeof(CChunk)
 # At most 64 levels have at most 8 nodes on either side.
 _MOST_BESIDE = 16 * MOST_LEVELS
+
+
+class Difference(NamedTuple):
+    """In what a file differs from another one: its chunks from `first` up to `end` stand where the other has those up to `other_end`.
+
+    These are chunk numbers, and the chunks `end` and `other_end` aren't among them. All chunks before and after are the same in both
+    files. `start`, `stop` and `other_stop` are the same places in bytes.
+
+    >>> tree, other = HashTree([(Hash(), 7), (Hash(), 8), (Hash(), 9)]), HashTree([(Hash(), 7), (Hash(), 9)])
+    >>> tree.diff(other)
+    Difference(first=1, end=2, other_end=1, start=7, stop=15, other_stop=7)
+    """
+
+    first: int
+    end: int
+    other_end: int
+    start: int
+    stop: int
+    other_stop: int
 
 
 @final
@@ -191,6 +210,42 @@ class HashTree(Handle):
         if status:
             raise error_of(status, _no_chunks(number, after))
         return begin.value, stop.value
+
+    def diff(self, other: HashTree) -> Optional[Difference]:
+        """Returns in which chunks this file differs from another one, or None if both have the same chunks.
+
+        These are all from the first that differs to the last, even if some between them are the same. Chunks are compared by their hashes
+        and sizes.
+
+        >>> tree, other = HashTree([(Hash(), 7), (Hash(), 8)]), HashTree([(Hash(), 7), (Hash(), 1), (Hash(), 2)])
+        >>> difference = tree.diff(other)
+        >>> tree.bytes_of(difference.first, difference.end), other.bytes_of(difference.first, difference.other_end)
+        ((7, 15), (7, 10))
+        """
+        if not isinstance(other, HashTree):
+            raise TypeError(but_got("a HashTree must be compared with a HashTree", type(other).__name__))
+        count, other_count = self.num_chunks, other.num_chunks
+        least = min(count, other_count)
+        first, same = interruptible(lambda: self._in_common(other, least), least >= MANY_NODES, self, other)
+        if first == count == other_count:
+            return None
+        end, other_end = count - same, other_count - same
+        return Difference(first, end, other_end, self._place(first), self._place(end), other._place(other_end))
+
+    def _in_common(self, other: HashTree, least: int) -> Tuple[int, int]:
+        """Returns how many chunks two files have in common at the front, and at the end beside these. The shorter has `least` chunks."""
+        calls, first, same = calls_for(least, LONG_CHUNKS), ctypes.c_size_t(), ctypes.c_size_t()
+        one, two = both_locked(self, other)
+        with one, two:
+            status = calls.yurewha_hash_tree_common_prefix(self._handle, other._handle, first)
+            status = status or calls.yurewha_hash_tree_common_suffix(self._handle, other._handle, least - first.value, same)
+        if status:
+            raise error_of(status)
+        return first.value, same.value
+
+    def _place(self, chunk: int) -> int:
+        """Returns where in the file a chunk begins, or where the last one ends if the chunk would come after it."""
+        return self.bytes_of(0, chunk)[1] if chunk else 0
 
     # ---- Proofs
 

@@ -90,6 +90,10 @@ class CPart(ctypes.Structure):
     _fields_ = _fields("yurewha_part")
 
 
+class CHashIndex(ctypes.Structure):
+    _fields_ = _fields("yurewha_hash_index")
+
+
 #: The structs by their names in the header.
 STRUCT_TYPES: Dict[str, Any] = {
     "yurewha_hash": CHash,
@@ -103,6 +107,7 @@ STRUCT_TYPES: Dict[str, Any] = {
     "yurewha_opened_range": COpenedRange,
     "yurewha_reader": CReader,
     "yurewha_part": CPart,
+    "yurewha_hash_index": CHashIndex,
 }
 
 #: The ctypes type for each type of the header. If a call only reads bytes, a hash, a key or chunks, it gets a Python `bytes`
@@ -115,6 +120,7 @@ _TYPES: Dict[str, Any] = {
     "uint64_t": ctypes.c_uint64,
     "yurewha_status": ctypes.c_uint32,
     "const size_t *": ctypes.POINTER(ctypes.c_size_t),
+    "const uint64_t *": ctypes.c_char_p,
     "const char *": ctypes.c_char_p,
     "const uint8_t *": ctypes.c_char_p,
     "const yurewha_hash *": ctypes.c_char_p,
