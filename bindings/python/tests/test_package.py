@@ -326,8 +326,8 @@ def test_the_help_lists_each_public_call():
 
 
 def test_public_names_of_types():
-    from yurewha import _chunks, _hash, _hashes, _types, types
+    from yurewha import _chunks, _hash, _hashes, _numbers, _types, types
 
-    assert types.__all__ == ["BytesLike", "Chunk", "ChunksLike", "HashLike", "HashesLike", "SizesLike"]
-    homes = [_types, _chunks, _chunks, _hash, _hashes, _chunks]
+    assert types.__all__ == ["BytesLike", "Chunk", "ChunksLike", "HashLike", "HashesLike", "NumbersLike", "SizesLike"]
+    homes = [_types, _chunks, _chunks, _hash, _hashes, _numbers, _chunks]
     assert all(getattr(types, name) is getattr(home, name) for name, home in zip(types.__all__, homes))

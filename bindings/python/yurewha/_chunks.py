@@ -4,14 +4,14 @@ from __future__ import annotations
 
 import re
 import struct
-from array import array
-from typing import Dict, Iterable, Iterator, List, SupportsIndex, Tuple, Union, cast, final, overload
+from typing import Dict, Iterable, Iterator, SupportsIndex, Tuple, Union, cast, final, overload
 
 from ._arrow_out import Capsules, capsules_of_chunks, schema_of_chunks
 from ._errors import InvalidArguments, but_got, told_items
-from ._hash import Hash, HashLike, checked_u64, out_of_range, raw_of
+from ._hash import Hash, HashLike, checked_u64, raw_of
 from ._hashes import Hashes, HashesLike, HexTexts, column_of
-from ._packed import BYTE, HASH, WORD, Packed, block_or_items, checked_block, is_column, told_format
+from ._numbers import NumbersLike, packed_numbers
+from ._packed import BYTE, HASH, WORD, Packed, block_or_items, checked_block
 from ._types import BytesLike
 
 __all__ = ["Chunks"]
@@ -22,7 +22,7 @@ Chunk = Tuple[Hash, int]
 ChunksLike = Union["Chunks", Iterable[Tuple[HashLike, SupportsIndex]], BytesLike]
 
 #: What a call accepts as sizes.
-SizesLike = Union[Iterable[SupportsIndex], BytesLike]
+SizesLike = NumbersLike
 
 _SIZE = 40
 #: How many chunks of each end a notebook shows.
@@ -42,9 +42,6 @@ _FORMS = (
 _EXPECTED = (
     "packed chunks must be bytes, unsigned words of 8 bytes, or items of 40 bytes: plain ones, or ones with the fields `hash` (or "
     "`words`) of 32 bytes and `size`, an unsigned word; each word has its least byte first")
-_EXPECTED_SIZES = "a column of sizes must have whole numbers, or be a buffer of eight bytes for each, the least first"
-_NUMBER = re.compile("[@=<]?[bBhHiIlLqQ]")
-_NEGATIVE = re.compile(b"[\x80-\xff]")
 
 
 def _pack(pairs: Iterable[Tuple[HashLike, SupportsIndex]]) -> bytes:
@@ -76,44 +73,6 @@ def _hash_first(block: bytes) -> bytes:
     for word in range(5):
         made[(word - 1) % 5::5] = given[word::5]
     return bytes(out)
-
-
-def _packed_sizes(sizes: SizesLike) -> bytes:
-    """Returns eight bytes for each size of a column, little-endian."""
-    given = block_or_items(sizes, _EXPECTED_SIZES)
-    if not isinstance(given, memoryview):
-        return _pack_sizes(cast(Iterable[SupportsIndex], given))
-    with given:
-        if given.ndim == 1 and given.itemsize == 1 and not is_column(sizes):
-            if re.fullmatch(BYTE, given.format) and given.nbytes % 8 == 0:
-                return given.tobytes()
-        elif given.ndim == 1 and _NUMBER.fullmatch(given.format):
-            return _widened(given.tobytes(), given.itemsize, given.format[-1].islower())
-        raise InvalidArguments(but_got(_EXPECTED_SIZES, told_format(given)))
-
-
-def _widened(numbers: bytes, width: int, signed: bool) -> bytes:
-    """Returns eight bytes for each whole number of a column, whose numbers have `width` bytes each."""
-    if signed:
-        negative = _NEGATIVE.search(numbers[width - 1::width])
-        if negative:
-            place = negative.start()
-            number = int.from_bytes(numbers[width * place:width * (place + 1)], "little", signed=True)
-            raise out_of_range(f"size {place}", number)
-    if width == 8:
-        return numbers
-    out = bytearray(len(numbers) // width * 8)
-    for place in range(width):
-        out[place::8] = numbers[place::width]
-    return bytes(out)
-
-
-def _pack_sizes(sizes: Iterable[SupportsIndex]) -> bytes:
-    listed = list(sizes)
-    try:
-        return array("Q", cast(List[int], listed)).tobytes()
-    except (TypeError, ValueError, OverflowError):
-        return b"".join(checked_u64(size, f"size {place}").to_bytes(8, "little") for place, size in enumerate(listed))
 
 
 def _rows(chunks: Chunks, first: int) -> Iterator[str]:
@@ -181,7 +140,7 @@ class Chunks(Packed[Chunk]):
         >>> Chunks.from_columns([Hash(), Hash()], [1, 2]) == Chunks([(Hash(), 1), (Hash(), 2)])
         True
         """
-        column, packed_sizes = column_of(hashes), _packed_sizes(sizes)
+        column, packed_sizes = column_of(hashes), packed_numbers(sizes, "size")
         if len(packed_sizes) != 8 * len(column):
             counts = f"{len(column)} hashes and {len(packed_sizes) // 8} sizes"
             raise InvalidArguments(but_got("there must be one size for each hash", counts))

@@ -8,6 +8,7 @@
 from ._chunks import Chunk, ChunksLike, SizesLike
 from ._hash import HashLike
 from ._hashes import HashesLike
+from ._numbers import NumbersLike
 from ._types import BytesLike
 
-__all__ = ["BytesLike", "Chunk", "ChunksLike", "HashLike", "HashesLike", "SizesLike"]
+__all__ = ["BytesLike", "Chunk", "ChunksLike", "HashLike", "HashesLike", "NumbersLike", "SizesLike"]
