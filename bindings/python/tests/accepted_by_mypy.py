@@ -208,6 +208,9 @@ all_chunks: y.Chunks = hash_tree.chunks
 index: y.HashIndex = y.HashIndex([root, bytes(32)])
 are_known: List[bool] = index.contains(many)
 fresh: int = index.add_all(many) + index.add(root) + len(index) + len(index.new(many)) + len(many[are_known])
+index = y.HashIndex(many, array.array("Q", [7]))
+fresh = index.add_all([root], numbers=[7]) + index.add(bytes(32), 7) + index.add(root, number=7)
+where: List[Optional[int]] = [index.number(root), *index.numbers([bytes(32), root])]
 difference: Optional[y.Difference] = hash_tree.diff(y.HashTree(packed))
 if difference is not None:
     changed_chunks = packed[difference.first:difference.end] + packed[difference.first:difference.other_end]
@@ -216,7 +219,9 @@ if difference is not None:
 
 
 # Public names of types.
-def name_of(chunks: types.ChunksLike, data: types.BytesLike, hash_: types.HashLike, sizes: types.SizesLike, hashes: types.HashesLike) -> y.Hash:
+def name_of(chunks: types.ChunksLike, data: types.BytesLike, hash_: types.HashLike, sizes: types.SizesLike, hashes: types.HashesLike,
+            numbers: types.NumbersLike = ()) -> y.Hash:
+    y.HashIndex(hashes, numbers)
     pair: types.Chunk = (y.data_hash(data), 1)
     return y.file_hash(y.Chunks.from_columns(hashes, sizes) + y.Chunks([pair]) + y.Chunks([(hash_, 1)]) + y.Chunks(chunks))
 

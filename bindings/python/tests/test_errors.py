@@ -69,6 +69,12 @@ def freed_hash_tree():
     return tree
 
 
+def freed_index():
+    index = y.HashIndex([Z])
+    index.__del__()
+    return index
+
+
 def verified(fetch=lambda start, stop: b"", prove=lambda start, stop: PROOF, **options):
     return y.VerifiedFile(TREE.file_hash(), fetch, prove, **options)
 
@@ -245,6 +251,19 @@ REFUSED = [
         lambda: pickle.dumps(freed_hash_tree()),
         lambda: freed_hash_tree().diff(TREE),
         lambda: TREE.diff(freed_hash_tree()),
+        lambda: freed_index().add(Z),
+        lambda: freed_index().add_all([Z]),
+        lambda: Z in freed_index(),
+        lambda: freed_index().contains([Z]),
+        lambda: freed_index().number(Z),
+        lambda: freed_index().numbers([Z]),
+        lambda: freed_index().new([Z]),
+        lambda: len(freed_index()),
+        lambda: freed_index().hashes(),
+        lambda: freed_index() == y.HashIndex(),
+        lambda: y.HashIndex() == freed_index(),
+        lambda: freed_index().copy(),
+        lambda: pickle.dumps(freed_index()),
         lambda: y.OpenedRange.__new__(y.OpenedRange).num_chunks,
         lambda: freed_range().num_chunks,
         lambda: freed_range().file_size,
@@ -416,6 +435,7 @@ def test_freed_twice():
     again = y.Subtree.from_chunks(False, [ONE], False)
     assert again.num_nodes == 1
     assert repr(freed_session()) == "<yurewha.Session that can't be read>"
+    assert repr(freed_index()) == "<yurewha.HashIndex that can't be read>"
 
 
 NAMED = [
@@ -460,7 +480,14 @@ TOLD = [
     (f"the size of chunk 0 {U64} {MAX + 1}", lambda: y.xorb_hash([(Z, MAX + 1)])),
     *((f"size 2 {U64} -3", lambda code=code: y.Chunks.from_columns(4 * [Z], array.array(code, [1, 2, -3, -4]))) for code in "bhilq"),
     (f"size 1 {U64} -3", lambda: y.Chunks.from_columns([Z, Z], [1, -3])),
+    (f"number {U64} -3", lambda: y.HashIndex().add(Z, -3)),
+    (f"number 1 {U64} {MAX + 1}", lambda: y.HashIndex([Z, Z], [1, MAX + 1])),
+    (f"number 2 {U64} -3", lambda: y.HashIndex(4 * [Z], array.array("h", [1, 2, -3, -4]))),
+    ("number 1 must be a whole number, got NoneType: it is null", lambda: y.HashIndex([Z, Z], [1, None])),
+    ("there must be one number for each hash, got 2 hashes and 1 numbers", lambda: y.HashIndex([Z, Z], [1])),
     ("a HashTree must be compared with a HashTree, got list", lambda: TREE.diff([ONE])),
+    ("a column of numbers must have whole numbers, or be a buffer of eight bytes for each, the least first, got 'd': floats, as pandas "
+     "makes of numbers with nulls", lambda: y.HashIndex([Z], array.array("d", [1]))),
     (f"position {U64} -1", lambda: session().put(-1, [ONE])),
     (f"position {U64} a number of 5001 bits", lambda: session().taken(1 << 5000)),
     (f"position {U64} a number of 129 bits", lambda: session().taken(1 << 128)),
@@ -586,6 +613,8 @@ def deep_calls():
         lambda: repr(opened()), lambda: opened().ends(0), lambda: file_range.check(0, memoryview(great)),
         lambda: file_range.read(3, 5, great).tobytes(), lambda: pickle.loads(pickle.dumps(PROOF)).levels,
         lambda: y.VerifiedFile(file.file_hash(), lambda start, stop: great, file.proof_of_bytes, chunk_limit=len(great)).read(7),
+        lambda: y.HashIndex(chunks.hashes, range(30)).numbers([Z, NODE[0]]), lambda: (NODE[0] in y.HashIndex(chunks.hashes)),
+        lambda: y.HashIndex([Z], [7]).copy().number(Z), lambda: pickle.loads(pickle.dumps(y.HashIndex([Z], [7]))).add(Z),
         lambda: TREE.diff(file),
         lambda: y.data_hash(b"abc"), lambda: y.Hasher(b"abc").count, lambda: kept.read_at(3, 5), lambda: str(Z), lambda: y.Hash() > y.Hash(),
     ]
@@ -678,7 +707,7 @@ count = 1_000_000
 chunks = y.Chunks(b"".join(i.to_bytes(24, "little") + b"\\1" + bytes(7) + b"\\1" + bytes(7) for i in range(count)))
 tree = y.Subtree.from_chunks(False, chunks, False)
 other = y.Subtree.from_chunks(False, [(y.Hash(), 1)], False)
-session, full, hashes = y.Session(), y.Session(), chunks.hashes
+session, full, hashes, numbers, index = y.Session(), y.Session(), chunks.hashes, bytes(8 * count), y.HashIndex([y.Hash()], [7])
 full.put(0, chunks)
 hash_tree = y.HashTree(chunks)
 proof = hash_tree.proof(0, count)
@@ -694,6 +723,7 @@ calls = [
     lambda: full.copy(),
     lambda: session.push_run(0, count, tree),
     lambda: session.keep_hashes(hashes),
+    lambda: index.add_all(hashes, numbers),
     lambda: y.Subtree.merge_all([tree, tree]),
     lambda: y.HashTree(chunks),
     lambda: proof.open_root(hash_tree.root),
@@ -713,6 +743,7 @@ for call in (lambda: hash_tree.proof(0, count), proof.to_json):  # Python has no
         pass
     else:
         raise AssertionError("a call wasn't refused")
+assert list(index) == [y.Hash()] and index.number(y.Hash()) == 7
 assert tree.num_nodes == count and session.num_runs == 0 and len(session.known_hashes()) == 0
 assert hash_tree.proof(7, 8).open_root(hash_tree.root).begins(0) == 7
 print("refused", len(calls))
@@ -727,7 +758,7 @@ def test_out_of_memory():
     done = subprocess.run(
         [sys.executable, "-c", OUT_OF_MEMORY.format(path=sys.path)], capture_output=True, text=True, check=False,
         env=environment)
-    assert done.stdout == "refused 13\n", done.stderr
+    assert done.stdout == "refused 14\n", done.stderr
 
 
 def test_no_leak():
@@ -746,6 +777,7 @@ def test_no_leak():
             pickle.loads(pickle.dumps(one))
             y.Hasher(bytes(1000)).copy().digest()
             hash_tree = y.HashTree(chunks)
+            pickle.loads(pickle.dumps(y.HashIndex(chunks.hashes, chunks.sizes))).numbers(chunks.hashes)
             hash_tree.diff(y.HashTree(chunks[1:]))
             proof = y.RangeProof.from_json(hash_tree.proof(7, 20).to_json())
             pickle.loads(pickle.dumps(proof)).open_root(hash_tree.root).begins(3)

@@ -154,8 +154,10 @@ def a_file(tmp_path):
 CALLS = {
     "HashIndex": lambda folder: y.HashIndex(items(HASHES)),
     "HashIndex.add_all": lambda folder: y.HashIndex().add_all(items(HASHES)),
+    "HashIndex.add_all of numbers": lambda folder: y.HashIndex().add_all(HASHES, items(range(3))),
     "HashIndex.contains": lambda folder: y.HashIndex().contains(items(HASHES)),
     "HashIndex.new": lambda folder: y.HashIndex().new(items(HASHES)),
+    "HashIndex.numbers": lambda folder: y.HashIndex().numbers(items(HASHES)),
     "HashIndex.__iter__": lambda folder: [unlocked() for _ in y.HashIndex(HASHES)],
     "HashTree": lambda folder: y.HashTree(items(CHUNKS)),
     "Session.put": lambda folder: y.Session().put(0, items(CHUNKS)),

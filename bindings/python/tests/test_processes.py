@@ -242,6 +242,7 @@ INDEX_CALLS = {
     "add": lambda index: index.add(HASH), "add_all": lambda index: index.add_all([HASH]), "in": lambda index: HASH in index,
     "contains": lambda index: index.contains([HASH]), "new": lambda index: index.new([HASH]), "hashes": lambda index: index.hashes(),
     "len": len, "list": list, "==": lambda index: index == y.HashIndex(), "copy": lambda index: index.copy(), "pickle": pickle.dumps,
+    "number": lambda index: index.number(HASH), "numbers": lambda index: index.numbers([HASH]),
 }
 
 
@@ -251,7 +252,7 @@ def test_an_index_in_use_when_a_process_is_forked(name):
     holds, ends = threading.Event(), threading.Event()
 
     def hold():
-        with used._known._locked():
+        with used._locked():
             holds.set()
             ends.wait()
 

@@ -1,8 +1,6 @@
-"""What is saved: whole or not at all, and refused if a byte of it is missing or wrong. Sessions that keep no hashes. Indexes of hashes."""
+"""What is saved: whole or not at all, and refused if a byte of it is missing or wrong. Sessions that keep no hashes."""
 
 import base64
-import copy
-import ctypes
 import json
 import os
 import pickle
@@ -10,7 +8,6 @@ import random
 import stat
 import subprocess
 import sys
-import threading
 from pathlib import Path
 
 import pytest
@@ -37,6 +34,7 @@ SAVED = {
     "subtree": lambda: y.Subtree.from_chunks(True, [seeded(k) for k in range(40)], False),
     "hash tree": lambda: y.HashTree([seeded(k) for k in range(40)]), "empty hash tree": lambda: y.HashTree([]),
     "hash index": lambda: y.HashIndex(seeded(k)[0] for k in range(40)), "empty hash index": y.HashIndex,
+    "hash index with numbers": lambda: y.HashIndex((seeded(k)[0] for k in range(40)), range(40)),
 }
 EACH = pytest.mark.parametrize("name", SAVED)
 
@@ -92,7 +90,7 @@ FORGED = [
     (y.InvalidText, y.Session, b"session", b"\1" + (29).to_bytes(8, "little") + b'{"runs":[],"known_hashes":[]}' + bytes(31)),
     (y.InvalidText, y.Subtree, b"subtree", b""), (y.InvalidJson, y.Subtree, b"subtree", b"[]"),
     (y.InvalidArguments, y.HashTree, b"hash tree", bytes(39)), (y.SizeOverflow, y.HashTree, b"hash tree", 2 * (bytes(32) + b"\xff" * 8)),
-    (y.InvalidText, y.HashIndex, b"hash index", bytes(31)),
+    (y.InvalidText, y.HashIndex, b"hash index", bytes(31)), (y.InvalidText, y.HashIndex, b"hash index", b"\1" + bytes(39)),
 ]
 
 
@@ -315,12 +313,20 @@ def seeded_proof():
     return y.HashTree([seeded(k) for k in (1, 2, 3)]).proof(1, 2)
 
 
-def read_file(data, folder):
+def seeded_index():
+    return y.HashIndex(seeded(k)[0] for k in (1, 2, 3))
+
+
+def read_file(data, folder, kind=y.Session):
     (folder / "saved").write_bytes(data)
-    return y.Session.load(folder / "saved")
+    return kind.load(folder / "saved")
 
 
-#: Pickles, saved files and bytes as the package wrote them before the library did, in base 85.
+def read_index(data, folder):
+    return read_file(data, folder, y.HashIndex)
+
+
+#: Pickles, saved files and bytes as the package wrote them before the library did, or before indexes had numbers, in base 85.
 WRITTEN = {
     "pickled session": (session, pickle.loads, (
         'fC6J*Ut)D>Y;<XEUtbDmWprV5baD!D0AqP|a%FdDVG2`ab8~5LZVFfl0001Aa%FRLZ*pa1hEhucO9W^DV|jIQWp`*{3R87rbaG{73RnpM003rkZ*5;@Y+-bU'
@@ -352,6 +358,12 @@ WRITTEN = {
     "range proof": (seeded_proof, y.RangeProof.from_bytes, (
         '0RR91000000RR91000000RR9100000o5BNcf6&Fxjo?3)GC@MWAoZ$OSAC-y)>h30pAiVZWB>pF00000D*VK?gmvb_$nrp*!+wK_&6KQ%DGR%%ata~c`{gl9'
         '$N&HU00000DQOwGk?SiBBxx{ipX}YGpXK9dLZbBDH?JktI7dd<ECB!j00000')),
+    "pickled hash index": (seeded_index, pickle.loads, (
+        'fCQC*000000001t2YGdJWp`*{l#B^TVRL9nZe(S6l#`T0V4K1NZ-3Cm&yC<emNG#?zaaIhS66+b8P-<K1)mWJzbgF1wS;x%!^rYLp2L2FiOrO(hbarYrg91)'
+        '-TUP+ODSm?xsmHD4J2tWZlCPkrJv>FXhNd&-8Zi#)i_5+*p!8oQj{(')),
+    "hash index": (seeded_index, read_index, (
+        'd3ADScW7ZCXkl|`AZc!7Wq2Sl3XvBGo;+V0^rERkd|!$VLBRWL$dojj1wj1>3VV6_z?;GYZ-3Cm&yC<emNG#?zaaIhS66+b8P-<K1)mWJzbgF1wS;x%!^rYL'
+        'p2L2FiOrO(hbarYrg91)-TUP+ODSm?xsmHD4J2tWZlCPkrJv>FXhNd&-8Zi#)i_5+*Z')),
 }
 
 
@@ -359,7 +371,7 @@ WRITTEN = {
 def test_what_was_written_before_is_read(name, tmp_path):
     make, read, text = WRITTEN[name]
     data = base64.b85decode(text)
-    found = read(data, tmp_path) if read is read_file else read(data)
+    found = read(data, tmp_path) if read in (read_file, read_index) else read(data)
     assert found == make() and getattr(found, "keeps_hashes", None) == getattr(make(), "keeps_hashes", None)
 
 
@@ -446,81 +458,3 @@ def test_subtrees_can_be_summed():
     parts = [y.Subtree.from_chunks(False, [seeded(k), seeded(k + 1)], False) for k in range(9)]
     start = y.Subtree.from_chunks(True, [], False)
     assert sum(parts, start) == y.Subtree.merge_all([start, *parts]) and start.is_empty
-
-
-# ---- Indexes
-
-def test_an_index_is_a_set():
-    rng, index, known = random.Random(73), y.HashIndex(), set()
-    for _ in range(300):
-        chosen = [seeded(rng.randrange(80))[0] for _ in range(rng.randrange(6))]
-        call = rng.randrange(4)
-        if call == 0 and chosen:
-            assert index.add(rng.choice((chosen[0], chosen[0].bytes))) == (chosen[0] not in known)
-            known.add(chosen[0])
-        elif call == 1:
-            assert index.add_all(rng.choice((chosen, y.Hashes(chosen), iter(chosen)))) == len(set(chosen) - known)
-            known |= set(chosen)
-        elif call == 2:
-            assert index.contains(chosen) == [hash_ in known for hash_ in chosen]
-            assert all((hash_ in index) == (hash_.bytes in index) == (hash_ in known) for hash_ in chosen)
-        else:
-            assert list(index.new(chosen)) == [hash_ for hash_ in dict.fromkeys(chosen) if hash_ not in known]
-        assert len(index) == len(known)
-    assert set(index) == set(index.hashes()) == known and index == y.HashIndex(known)
-    assert repr(index) == f"<yurewha.HashIndex of {len(known)}>"
-    for other in (copy.copy(index), copy.deepcopy(index), pickle.loads(pickle.dumps(index)), index.copy()):
-        assert other == index and other.add(Z) and other != index and Z not in index
-    assert y.HashIndex() != 7 and not y.HashIndex()
-
-
-def test_wrong_hashes_of_an_index():
-    index = y.HashIndex([Z])
-    for call, error in (
-        (lambda: index.add("00"), TypeError), (lambda: index.add(bytes(31)), y.InvalidArguments), (lambda: index.add(None), TypeError),
-        (lambda: index.add_all([seeded(1)[0], None]), TypeError), (lambda: index.add_all(bytes(33)), y.InvalidArguments),
-        (lambda: "00" in index, TypeError), (lambda: bytes(33) in index, y.InvalidArguments), (lambda: index.contains(7), TypeError),
-        (lambda: hash(index), TypeError), (lambda: type("Other", (y.HashIndex,), {}), TypeError),
-    ):
-        with pytest.raises(error):
-            call()
-        assert list(index) == [Z]
-
-
-def test_threads_share_an_index():
-    index, news = y.HashIndex(), []
-    hashes = [seeded(k)[0] for k in range(3000)]
-
-    def work(seed):
-        mine = hashes[:]
-        random.Random(seed).shuffle(mine)
-        news.append(sum(map(index.add, mine[:1500])) + index.add_all(mine[1500:]))
-
-    threads = [threading.Thread(target=work, args=(seed,)) for seed in range(6)]
-    for thread in threads:
-        thread.start()
-    for thread in threads:
-        thread.join()
-    assert sum(news) == len(index) == 3000
-
-
-class MallInfo(ctypes.Structure):
-    """What glibc says of its heap: the bytes of blocks in use are `hblkhd` and `uordblks`."""
-
-    _fields_ = [(name, ctypes.c_size_t) for name in (
-        "arena", "ordblks", "smblks", "hblks", "hblkhd", "usmblks", "fsmblks", "uordblks", "fordblks", "keepcost")]
-
-
-@pytest.mark.skipif(not hasattr(ctypes.CDLL(None), "mallinfo2"), reason="only glibc says what its heap has in use")
-def test_an_index_takes_60_bytes_for_each_hash():
-    """A hash has 32 bytes, and half of the places of a table that has just grown are free."""
-    mallinfo = ctypes.CDLL(None).mallinfo2
-    mallinfo.restype = MallInfo
-
-    def in_use():
-        now = mallinfo()
-        return now.hblkhd + now.uordblks
-
-    packed, before = random.Random(74).randbytes(32 * 100_000), in_use()
-    index = y.HashIndex(packed)
-    assert len(index) == 100_000 and 33 * len(index) < in_use() - before < 80 * len(index)

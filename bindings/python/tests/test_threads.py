@@ -15,7 +15,7 @@ import time
 import pytest
 
 import yurewha as y
-from yurewha import _declarations, _guard, _hash, _library
+from yurewha import _declarations, _guard, _hash, _hash_index, _library
 
 
 def run(*calls):
@@ -201,7 +201,7 @@ def gets(item, arguments):
     """Whether a call of the library with these arguments gets the object's handle, by itself or in an array of handles."""
     handle = handle_of(item)
     return any(
-        argument is handle or (
+        argument is handle or getattr(argument, "_obj", None) is handle or (
             isinstance(argument, ctypes.Array) and argument._type_ is _library.CSubtree
             and handle.at in [element.at for element in argument])
         for argument in arguments)
@@ -227,6 +227,10 @@ def trees():
 
 def two_trees():
     return y.HashTree(block(1, 40)), y.HashTree(block(1, 300))
+
+
+def indexes():
+    return y.HashIndex(block(1, 20).hashes, range(20)), y.HashIndex(block(2, 300).hashes)
 
 
 def ranges():
@@ -261,6 +265,12 @@ USES = {
         lambda tree: tree.chunks_at(0, 7), lambda tree: tree.bytes_of(0, 2), lambda tree: tree.proof(0, 2),
         lambda tree: tree.proof_of_bytes(0, 7), lambda tree: pickle.dumps(tree), repr],
     two_trees: [lambda one, other: one.diff(other), lambda one, other: other.diff(one), lambda one, other: one.diff(one)],
+    indexes: [
+        lambda one, other: one.add(y.Hash(), 7), lambda one, other: one.add_all(block(2, 300).hashes, range(300)),
+        lambda one, other: y.Hash() in one, lambda one, other: one.contains(block(2, 300).hashes), lambda one, other: one.number(y.Hash()),
+        lambda one, other: one.numbers([y.Hash()]), lambda one, other: one.new([y.Hash()]), lambda one, other: other.hashes(),
+        lambda one, other: len(one), lambda one, other: list(one), lambda one, other: one == other, lambda one, other: one.copy(),
+        lambda one, other: pickle.dumps(other), lambda one, other: repr(one)],
     ranges: [
         lambda range_: range_.file_size, lambda range_: range_.num_chunks, lambda range_: range_.begins(1),
         lambda range_: range_.ends(1), lambda range_: range_.check(0, DATA), lambda range_: range_.check(1, bytearray(b"abc")),
@@ -292,7 +302,13 @@ def test_each_call_with_a_handle_is_made_under_its_lock(monkeypatch, make, numbe
             unlocked.append("update_as_given")
         return update(*arguments)
 
+    def spied_find(*arguments, call=_hash_index.find_as_given):
+        if not any(gets(item, arguments) and item._lock.held for item in items):
+            unlocked.append("find_as_given")
+        return call(*arguments)
+
     monkeypatch.setattr(_hash, "update_as_given", spied_update)
+    monkeypatch.setattr(_hash_index, "find_as_given", spied_find)
     USES[make][number](*items)
     assert unlocked == [] and any(item._lock.taken for item in items) and all(item._lock.held == 0 for item in items)
 
@@ -307,7 +323,7 @@ def test_a_copy_is_taken_under_the_lock(make):
 
 
 @pytest.mark.parametrize("by_hand", [False, True])
-@pytest.mark.parametrize("make", [subtrees, sessions, trees, ranges])
+@pytest.mark.parametrize("make", [subtrees, sessions, trees, indexes, ranges])
 def test_an_object_is_freed_once_and_under_its_lock(monkeypatch, make, by_hand):
     item = make()[0]
     item._lock = lock = Noted(item._lock)
@@ -335,7 +351,7 @@ class Ordered(Noted):
 
 
 @pytest.mark.parametrize("turned", [False, True])
-@pytest.mark.parametrize("make, number", [(make, number) for make in (subtrees, two_trees) for number in range(len(USES[make]))])
+@pytest.mark.parametrize("make, number", [(make, number) for make in (subtrees, two_trees, indexes) for number in range(len(USES[make]))])
 def test_a_call_takes_two_locks_in_one_order(make, number, turned):
     """Whichever object comes first in it. Else two threads might wait for each other."""
     first, last = items = sorted(make(), key=id)

@@ -215,10 +215,10 @@ _short = ctypes.PyDLL(PATH, handle=_long._handle)
 
 _, long = _declare(_long, PATH)
 bare, short = _declare(_short, PATH)
-#: `yurewha_hasher_update` of `short`, to which ctypes passes each argument as it is given: a reference to a state, `bytes`, and their
+#: Two calls of `short`, to which ctypes passes each argument as it is given: a reference to a state or a handle, `bytes`, and their
 #: number as a `c_size_t`. Without conversions a call takes less time, and the end of the stack is no wrong argument.
-update_as_given = _short["yurewha_hasher_update"]
-update_as_given.restype = ctypes.c_uint32
+update_as_given, find_as_given = _short["yurewha_hasher_update"], _short["yurewha_hash_index_find"]
+update_as_given.restype = find_as_given.restype = ctypes.c_uint32
 
 #: The level of processors that the library has chosen for this one, such as "x86-64-v3".
 LEVEL: str = short.yurewha_processor_level().decode("ascii")

@@ -190,10 +190,7 @@ class Session(Handle):
         >>> Hash() in session, Hash.random_from_seed(1) in session
         (True, False)
         """
-        return self._knows(raw_of(hash_, "hash"))
-
-    def _knows(self, raw: bytes) -> bool:
-        out = ctypes.c_bool()
+        raw, out = raw_of(hash_, "hash"), ctypes.c_bool()
         with self._locked():
             status = short.yurewha_session_knows(self._handle, raw, out)
         if status:
@@ -498,26 +495,16 @@ class Session(Handle):
         >>> session.put(0, [(Hash(), 1), (Hash.random_from_seed(1), 1)])
         1
         """
-        self._learned(hashes)
-
-    def _learned(self, hashes: HashesLike) -> int:
-        """Keeps hashes. Returns how many of them are new, each counted once."""
         packed = Hashes(hashes).packed
         count = len(packed) // _HASH_SIZE
 
-        def work() -> int:
+        def work() -> None:
             with self._locked():
-                before = self._num_known()
-                self._keep(packed, count)
-                return self._num_known() - before
-        return interruptible(work, count >= MANY_NODES, self)
-
-    def _keep(self, packed: bytes, count: int) -> None:
-        with self._locked():
-            self._changes += 1
-            status = calls_for(count, LONG_CHUNKS).yurewha_session_keep_hashes(self._handle, packed, count)
-        if status:
-            raise error_of(status, "this session keeps no hashes")
+                self._changes += 1
+                status = calls_for(count, LONG_CHUNKS).yurewha_session_keep_hashes(self._handle, packed, count)
+            if status:
+                raise error_of(status, "this session keeps no hashes")
+        interruptible(work, count >= MANY_NODES, self)
 
     @property
     def keeps_hashes(self) -> bool:
