@@ -32,6 +32,14 @@ func chunks(texts ...string) (list []Chunk) {
 	return
 }
 
+// Chunks without a natural cut, so that a subtree keeps each.
+func uncut(count uint64) (list []Chunk) {
+	for i := uint64(0); i < count; i++ {
+		list = append(list, Chunk{Hash{i, i, i, 4*i + 1}, i})
+	}
+	return
+}
+
 func expect(t *testing.T, found, wanted any) {
 	t.Helper()
 	if found != wanted {
@@ -171,11 +179,7 @@ func TestSubtreesAreReadAsTheVectorsSay(t *testing.T) {
 	}
 	expect(t, count > 200, true)
 	// A text that is longer than the first room.
-	var list []Chunk
-	for i := uint64(0); i < 200; i++ {
-		list = append(list, Chunk{Hash{i, i, i, 4*i + 1}, i})
-	}
-	text := must(must(NewSubtree(false, list, false)).MarshalJSON())
+	text := must(must(NewSubtree(false, uncut(200), false)).MarshalJSON())
 	expect(t, len(text) > 4096 && json.Valid(text), true)
 }
 
@@ -281,6 +285,13 @@ func TestGoroutinesShareObjects(t *testing.T) {
 	list := chunks("a chunk", "another", "and a third")
 	open, file := must(NewSubtree(false, list, false)), must(NewSubtree(true, list, true))
 	session, index := must(NewSession()), must(NewHashIndex())
+	// Calls that take so long that others come while they run.
+	long := must(NewSubtree(false, uncut(20000), false))
+	var hashes []Hash
+	var numbers []uint64
+	for _, chunk := range uncut(10000) {
+		hashes, numbers = append(hashes, chunk.Hash), append(numbers, chunk.Size)
+	}
 	var group sync.WaitGroup
 	for i := 0; i < 8; i++ {
 		group.Add(1)
@@ -291,11 +302,10 @@ func TestGoroutinesShareObjects(t *testing.T) {
 				own := must(open.Clone())
 				expect(t, own.MergeInto(open), nil)
 				must(session.Put(uint64(3*(100*i+k)), list))
-				_ = must(NewSession())
-				must(index.Insert([]Hash{{uint64(k)}}, []uint64{uint64(k)}))
-				number, found, err := must(NewHashIndex()).Get(Hash{uint64(k)})
-				expect(t, fmt.Sprint(number, found, err), "0 false <nil>")
-				number, found, err = index.Get(Hash{uint64(k)})
+				_, _ = must(NewSession()), must(NewHashIndex())
+				must(long.Clone()).Close()
+				must(index.Insert(hashes, numbers))
+				number, found, err := index.Get(hashes[k])
 				expect(t, fmt.Sprint(number, found, err), fmt.Sprint(k, true, nil))
 			}
 			runtime.GC()
@@ -303,5 +313,5 @@ func TestGoroutinesShareObjects(t *testing.T) {
 	}
 	group.Wait()
 	must(session.Root(2400))
-	expect(t, must(index.Len()), 100)
+	expect(t, must(index.Len()), len(hashes))
 }
