@@ -317,7 +317,9 @@ def _access(name: str, operands: List[str]) -> "Step":
 
 
 def _listed(text: str) -> List[Vector]:
-    """The vectors of a list in braces, which may be that of an element."""
+    """The vectors of a list in braces, which may be that of an element. Four have only the first and the last one written."""
+    if ends := re.match(r"\{v(\d+)(\.\w+)-v(\d+)\2\}$", text):
+        return [Vector(f"v{i}{ends[2]}") for i in range(int(ends[1]), int(ends[3]) + 1)]
     found = re.match(r"\{([^}]*)\}(\[\d+\])?$", text)
     if not found:
         raise Fault(f"the operand {text}")
@@ -337,13 +339,13 @@ def _of_elements(elements: Iterable[Words], unit: int) -> Words:
 
 
 def _structure(name: str, operands: List[str]) -> "Step":
-    """`ld1`, `ld1r`, `ld2`, `st1` and `st2`: whole vectors, an element, or one that is repeated."""
+    """`ld1`, `ld1r`, `ld2`, `ld4`, `st1` and `st2`: whole vectors, an element, or one that is repeated."""
     vectors, place = _listed(operands[0]), Place(operands[1:])
     first = vectors[0]
     if first.element is not None or name == "ld1r":
         return _of_element(name, first, place)
     size, count = first.size, len(vectors)
-    if name in ("ld2", "st2") and first.unit not in (1, 4, 8) or name in ("ld1", "st1") and count > 2:
+    if name in ("ld2", "ld4", "st2") and first.unit not in (1, 4, 8) or name in ("ld1", "st1") and count > 2:
         raise Fault("a structure that isn't known")
 
     def load(m: "Aarch64") -> None:
@@ -351,7 +353,7 @@ def _structure(name: str, operands: List[str]) -> "Step":
         parts = _elements(m.memory.load(address, count * size // 4), first.unit)
         share = len(parts) // count
         for i, vector in enumerate(vectors):
-            its = parts[i::2] if name == "ld2" else parts[share * i:share * i + share]
+            its = parts[i::count] if name in ("ld2", "ld4") else parts[share * i:share * i + share]
             put(m, vector, _of_elements(its, first.unit))
 
     def store(m: "Aarch64") -> None:
@@ -388,7 +390,7 @@ _DECODERS: Dict[str, Callable[[str, List[str]], "Step"]] = {
     "usra": _shift_and_add, "ext": _extract, "tbl": _table, "movi": _immediate, **dict.fromkeys(("fmov", "umov", "dup"), _move),
     **dict.fromkeys(("uxtl", "uxtl2", "shll", "shll2"), _widened), **dict.fromkeys(("xtn", "xtn2", "addhn", "addhn2"), _narrowed),
     "addv": _sum_of_bytes, **dict.fromkeys(("ldr", "ldur", "ldp", "str", "stur", "stp"), _access),
-    **dict.fromkeys(("ld1", "ld1r", "ld2", "st1", "st2"), _structure),
+    **dict.fromkeys(("ld1", "ld1r", "ld2", "ld4", "st1", "st2"), _structure),
 }
 
 
