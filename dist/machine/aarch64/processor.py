@@ -84,8 +84,11 @@ class Qemu(Processor):
         return name_and_operands(self.image.instructions[place].text)[1]
 
     def _mentioned(self, place: int) -> Set[int]:
-        """The vectors that an instruction mentions."""
-        return {int(it) for it in re.findall(r"\b[vqdshb](\d+)\b", " ".join(self._operands(place)))}
+        """The vectors that an instruction mentions, also those between the first and the last one of a list."""
+        text = " ".join(self._operands(place))
+        ends = re.search(r"\{v(\d+)\.\w+-v(\d+)", text)
+        between = range(int(ends[1]), int(ends[2])) if ends else ()
+        return {*between, *(int(it) for it in re.findall(r"\b[vqdshb](\d+)\b", text))}
 
     def random_state(self, draws: random.Random, place: int) -> State:
         general = [random_value(draws) for _ in range(32)]
