@@ -21,8 +21,8 @@ from words import Value, Word, forget
 
 #: Where groups are, what says so, and room for a text; how many bytes it has; how many nodes a group has at most, and how many groups
 #: have their parents made at once.
-GROUPS, LIST, ROOM = [0x26000008 + 0x100010 * k for k in range(16)], 0x29000008, 0x2A000003
-ROOM_SIZE, MOST_NODES, MOST_GROUPS = 792, 9, 16
+GROUPS, LIST, ROOM = [0x26000008 + 0x10010 * k for k in range(64)], 0x29000008, 0x2A000003
+ROOM_SIZE, MOST_NODES, MOST_GROUPS = 792, 9, 64
 #: Sizes of nodes: at both ends, and where the number of digits changes.
 SIZES = [0, 1, *(10 ** k + more for k in range(1, 20) for more in (-1, 0, 1)), (1 << 64) - 1]
 
@@ -69,8 +69,8 @@ def pairs(is_short: bool) -> List[Tuple[int, int]]:
 
 
 def lengths(is_short: bool) -> List[List[int]]:
-    """Lengths of texts, for each number of texts; in the whole list each length is there."""
-    few = [[(67 * k + 61 * count) % (ROOM_SIZE + 1) for k in range(count)] for count in range(1, MOST_GROUPS + 1)]
+    """Lengths of texts, for many numbers of texts; in the whole list each length is there."""
+    few = [[(67 * k + 61 * count) % (ROOM_SIZE + 1) for k in range(count)] for count in (*range(1, 18), 32, 33, MOST_GROUPS)]
     if is_short:
         return [few[0], few[1], few[4], few[8], [0, 64, 65, 128, 791, ROOM_SIZE, *few[9]]]
     return few + [[min(at + k, ROOM_SIZE) for k in range(MOST_GROUPS)] for at in range(0, ROOM_SIZE + 1, MOST_GROUPS)]

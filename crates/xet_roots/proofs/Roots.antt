@@ -1,3 +1,4 @@
 pub mod Making
 pub mod OneRoot
+pub mod Placed
 pub mod Pieces
