@@ -8,7 +8,7 @@
 //! - `two_chunks` compresses those of two chunks at once, and `four_chunks` those of four.
 //! - `chunks` compresses those of several chunks side by side.
 //! - `messages` hashes several messages of at most a chunk side by side.
-//! - `slots` hashes messages where they stand.
+//! - `slots` hashes messages that begin slots of a chunk's length, where they are.
 //! - `subtrees` compresses several chunks and their parents side by side, up to the value of a complete subtree.
 //! - `tree` compresses the chaining values of two subtrees into their parent's, up to the root.
 #![tactic(auto)]
@@ -80,9 +80,10 @@ pub fn keyed_hash_each<const N: usize>(key: &[u8; 32], messages: &[&[u8]]) -> [[
     hashes
 }
 
-/// The number of slots, and the bytes of each. A message begins a slot.
+/// The number of slots of [`keyed_hash_slots`].
 pub const SLOTS: usize = 16;
 
+/// The bytes of a slot: the most that a message in it may have.
 pub const SLOT_LEN: usize = 1024;
 
 /// Returns the keyed BLAKE3 hashes of messages in slots under one key: element j of the result is that of message j, which is the first
