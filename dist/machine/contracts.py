@@ -11,7 +11,7 @@ from functools import partial
 from typing import Callable, Dict, Iterator, List, NamedTuple, Sequence, Tuple
 
 import bits
-from bits import Answers, Class, Some
+from bits import Answers, Beyond, Class, Some
 from calls import STACK, Caller
 from covers import must_cover
 from definition import CHUNK_END, CHUNK_START, KEYED_HASH, PARENT
@@ -34,12 +34,15 @@ DEPTH = 54
 
 
 class Check(NamedTuple):
-    """A check: its name, how many bits its numbers have, what runs it for a class, and the first answers of the numbers of a short check."""
+    """A check: its name, how many bits its numbers have, what runs it for a class, the first answers of the numbers of a short check; and how
+    many numbers it leaves out, because nothing is promised for them, with the words for these."""
 
     name: str
     bits: int
     run: Callable[[Class], None]
     few: Sequence[Answers] = ((),)
+    left_out: int = 0
+    which: str = ""
 
 
 def at_place(place: int) -> Word:
@@ -209,14 +212,14 @@ def joins(value: Some, used: int, kept: int) -> int:
 
 
 def run_add(course: Course, its: Class) -> None:
-    """`add_subtree_value`, for every number below 2^54 - 1, key, value and stack."""
+    """`add_subtree_value`, for every number, key, value and stack. After number 2^54 - 1 there is no place for a value."""
     theory = course.begin(its)
     memory = course.m.memory
     given = bits.variable(0, DEPTH)
     used = bits.known(bits.count_ones(given))
     kept = bits.known(bits.variable(DEPTH, 1))
-    if used == DEPTH:  # the number is 2^54 - 1, which is outside what is promised
-        return
+    if used == DEPTH:
+        raise Beyond
     memory.add_region(HASHER + WAITING, 32 * DEPTH, True)
     memory.add_region(KEY, 32, False)
     memory.add_region(VALUE, 32, False)
@@ -311,7 +314,7 @@ def run_absorb(course: Course, lanes: int, level: int, its: Class) -> None:
     kept = bits.known(bits.variable(DEPTH - level, 1))
     count = lanes if level else bits.known(bits.variable(DEPTH - level + 1, lanes.bit_length()))
     if not 2 <= count <= lanes:
-        return
+        raise Beyond
     chunks = count << level
     course.add_hasher()
     memory.add_region(MESSAGE, 1024 * chunks, False)
@@ -384,22 +387,28 @@ def checks(course: Course) -> Iterator[Check]:
     """The checks of a level."""
     lanes, deepest = course.library.level.lanes, DEPTH - course.library.level.lanes.bit_length() + 1
     ones = [((frozenset(range(DEPTH)), count),) for count in (0, 1, 2, 34, 53)]
-    yield Check("add_subtree_value", DEPTH + 1, partial(run_add, course), ones)
+    yield Check("add_subtree_value", DEPTH + 1, partial(run_add, course), ones, 2, "number 2^54 - 1")
     for level in range(deepest + 1):
         its = partial(run_apart, course, lanes, "subtrees::values_apart", level)
         yield Check(f"values_apart of {1 << level} chunks", DEPTH * (lanes + 1), its)
     yield Check("chunk_values", DEPTH * (lanes + 1), partial(run_apart, course, lanes, "chunks::chunk_values", 0))
     for width in WIDTHS:
         for level in range(0 if width > lanes else 1 if width < lanes else deepest):
-            its = partial(run_absorb, course, width, level)
-            bits_of = DEPTH - level + 1 + (0 if level else width.bit_length())
-            yield Check(f"absorb_subtrees of {1 << level} chunks in {width} lanes", bits_of, its)
+            yield check_of_absorb(course, width, level)
+
+
+def check_of_absorb(course: Course, width: int, level: int) -> Check:
+    """The check of `absorb_subtrees` of a size in some lanes. A caller may give it from 2 subtrees to as many as there are lanes."""
+    bits_of, counts = DEPTH - level + 1, 0 if level else width.bit_length()
+    left_out = (1 << counts) - (width - 1) << bits_of if counts else 0
+    name = f"absorb_subtrees of {1 << level} chunks in {width} lanes"
+    return Check(name, bits_of + counts, partial(run_absorb, course, width, level), ((),), left_out, f"fewer than 2 and more than {width}")
 
 
 def run_check(it: Check, is_short: bool) -> int:
     """Runs a check for all classes, or only for some of them, if it should be short. Returns how many there were."""
     if is_short:
-        return len(classes(it.run, it.name, it.few))
+        return len(classes(it.run, it.name, it.few).run)
     found = classes(it.run, it.name)
-    must_cover(found, it.bits, it.name)
-    return len(found)
+    must_cover(*found, it.left_out, it.bits, it.name)
+    return len(found.run)

@@ -11,7 +11,7 @@ from fractions import Fraction
 from typing import Callable, Dict, Iterator, List, NamedTuple, Optional, Sequence, Tuple, Union
 
 import bits
-from bits import Class, Some
+from bits import Beyond, Class, Some
 from calls import STACK
 from contracts import (
     BLOCK, COUNT, HASHER, HASHER_SIZE, MESSAGE, OPEN, WAITING, Check, Course, Theory, must_be, stand_in_for_add,
@@ -27,8 +27,9 @@ from widths import WIDTHS, of_width
 from words import Node, Value, Word, high, low, pair, symbol
 
 UPDATE, ABSORB = "hasher::Hasher::update", "tree::Tree::absorb_subtrees"
-#: How many bits a count of bytes has, a number of blocks, and a length of a piece: with its piece, a message has fewer than 2^64 bytes.
-BYTES, BLOCKS, LENGTH = 63, 57, 63
+#: How many bits a count of bytes has, a number of blocks, and a length of a piece. A message has fewer than 2^64 bytes, but nothing is left
+#: out for that: both sides count modulo 2^64.
+BYTES, BLOCKS, LENGTH = 64, 58, 63
 #: A call of absorb_subtrees: the number of the first chunk, the chunks of a subtree, how many subtrees, the place and the size of their
 #: bytes, and whether the message ends with them.
 Absorbed = Tuple[int, Some, Some, Some, Some, Some, int]
@@ -373,8 +374,8 @@ class Update:
         """A round, and what follows the last one: for every number of blocks, and every length of the rest."""
         bits.begin(its)
         blocks, rest, taken = bits.variable(0, BLOCKS), bits.variable(BLOCKS, LENGTH), bits.variable(BLOCKS + LENGTH, LENGTH)
-        if bits.less(rest, max(self.least, 1)):
-            return
+        if bits.less(rest, self.least):
+            raise Beyond
         whole = bits.add(rest, blocks, 64)
         theory = self.begin(its, 0)
         m = self.course.m
@@ -437,4 +438,5 @@ def checks(course: Course) -> Iterator[Check]:
     yield Check("update, up to its loop", BYTES + LENGTH, its.run_start, [
         (*below(0, BYTES, count), *below(BYTES, LENGTH, length)) for count, length in ((3, 3), (40, 33), (10, 3))])
     yield Check("update, a round", BLOCKS + 2 * LENGTH, its.run_round, [
-        (*below(0, BLOCKS, blocks), *below(BLOCKS, LENGTH, rest)) for blocks, rest in ((3, 11), (6, 13), (38, 17), (12, 35))])
+        (*below(0, BLOCKS, blocks), *below(BLOCKS, LENGTH, rest)) for blocks, rest in ((3, 11), (6, 13), (38, 17), (12, 35))],
+        its.least << BLOCKS + LENGTH, f"fewer than {its.least} bytes left")
