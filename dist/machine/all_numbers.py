@@ -10,7 +10,7 @@ from typing import Iterator, List, Sequence, Tuple
 import contracts
 import hashers
 import rounds
-from contracts import Check, Course
+from course import Check, Course
 from layout import Library
 from long_messages import by_either, check_length
 from machine import Machine

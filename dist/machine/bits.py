@@ -71,6 +71,8 @@ class Class:
         while any([*map(self._reduce, range(len(self.sums))), self._reduce_any()]):
             pass
         self.sums = [its for its in self.sums if its[0]]
+        # A list with all of another one says nothing more.
+        self.any = [its for i, its in enumerate(self.any) if not any(other < its or other == its and i > k for k, other in enumerate(self.any))]
         self.values: Dict[int, int] = {}
         self._choose()
 

@@ -6,15 +6,16 @@ from functools import partial
 from typing import Iterator, List, Sequence, Tuple
 
 import bits
-from bits import Answers, Class, Some
+from bits import Class, Some
 from calls import INTERNAL_KEY
-from contracts import (
-    BLOCK, COUNT, HASHER, HASHER_SIZE, KEY, MESSAGE, OPEN, RESULT, WAITING, Check, Course, Theory, at_place, must_be,
+from course import (
+    BLOCK, COUNT, HASHER, HASHER_SIZE, KEY, MESSAGE, OPEN, RESULT, Check, Course, Theory, add_hasher, at_place, must_be,
 )
 from definition import CHUNK_END, CHUNK_START, KEYED_HASH, ROOT, words_at
 from fault import Fault, number, some
 from long_messages import Arguments
 from memory import overwritten
+from source import below, blocks_before_last, ends_with_chunk, waiting
 from words import Word, high, low, node
 
 
@@ -115,7 +116,7 @@ def run_finalize(course: Course, its: Class) -> None:
     theory = course.begin(its)
     memory = course.m.memory
     count = bits.variable(0, 64)
-    course.add_hasher()
+    add_hasher(memory)
     memory.put_words(HASHER + COUNT, [low(count), high(count)])
     memory.add_region(RESULT, 32, True)
     course.run("hasher::Hasher::finalize", [RESULT, HASHER])
@@ -137,26 +138,7 @@ def run_finalize(course: Course, its: Class) -> None:
     course.must_keep(HASHER, HASHER + COUNT, "the hasher")
 
 
-def waiting(k: int) -> List[Word]:
-    """The value that waits at a place."""
-    return [at_place(HASHER + WAITING + 32 * k + 4 * i) for i in range(8)]
-
-
-def ends_with_chunk(count: Some) -> bool:
-    """Whether a message of several chunks ends with a whole one."""
-    return bits.less(1024, count) and bits.is_zero(bits.low_bits(count, 10))
-
-
-def blocks_before_last(count: Some) -> Some:
-    return 0 if bits.is_zero(count) else bits.shift_right(bits.subtract(count, 1), 6)
-
-
 # ---- All checks
-
-
-def below(first: int, count: int, place: int) -> Answers:
-    """The answers of a number of some bits from bit `first` on, whose highest 1 is at a place."""
-    return tuple((first + i, int(i == place)) for i in reversed(range(place, count)))
 
 
 def checks(course: Course) -> Iterator[Check]:

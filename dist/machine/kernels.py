@@ -47,7 +47,7 @@ def side_by_side(values: Iterable[Sequence[Word]]) -> List[Word]:
 
 def indices(places: Sequence[int]) -> List[Word]:
     """Numbers of 64 bits as words."""
-    return [word for place in places for word in (place, 0)]
+    return [word for place in places for word in (low(place), high(place))]
 
 
 class Kernel:
@@ -220,8 +220,16 @@ def check_four_parents(library: Library, lanes: int) -> Machine:
 
 
 def orders(lanes: int) -> Dict[str, List[int]]:
-    """Places of as many chunks, in three orders."""
-    return {"in order": list(range(lanes)), "three apart": [3 * j for j in range(lanes)], "backwards": [lanes - j for j in range(lanes)]}
+    """Places of as many chunks, in three orders: far apart, they are as far as in a message of almost 2^63 bytes."""
+    return {
+        "in order": list(range(lanes)), "far apart": [(1 << 53) - 1 - j * 0x123456789ABCD for j in range(lanes)],
+        "backwards": [lanes - j for j in range(lanes)],
+    }
+
+
+def orders_of_four() -> Dict[str, List[int]]:
+    """The places from which four chunks are taken at once: the last one twice if there are three."""
+    return {**orders(4), "the last one twice": [0, 1, 2, 2]}
 
 
 def checks_of_width(library: Library, lanes: int) -> Iterator[Tuple[str, str, Callable[[], Machine]]]:
@@ -243,7 +251,7 @@ def all_checks(library: Library) -> Iterator[Tuple[str, str, Callable[[], Machin
     """The checks of all functions that a level could have, each with the function's name and its own."""
     yield "compression::compress", "compress", partial(check_compress, library)
     yield "compression::two::compress_two_from", "compress_two", partial(check_compress_two, library)
-    for name, places in orders(4).items():
+    for name, places in orders_of_four().items():
         yield FOUR_CHUNKS, f"four_chunk_values, {name}", partial(check_chunk_values, library, FOUR_CHUNKS, places)
     for lanes in WIDTHS:
         if lanes <= library.level.lanes:

@@ -13,8 +13,8 @@ from typing import Callable, Dict, Iterator, List, Optional, Sequence, Tuple, Ty
 
 from calls import DATA_KEY, MESSAGE, RESULT, Caller, bytes_of, check_hash_of
 from definition import CHUNK_END, CHUNK_START, KEYED_HASH, PARENT, ROOT, compress, words_at
-from fault import Fault, number
-from kernels import FOUR_CHUNKS, FOUR_PARENTS, VALUE_VECTORS, beside, side_by_side
+from fault import Fault, number, some
+from kernels import FOUR_CHUNKS, FOUR_PARENTS, VALUE_VECTORS, beside, orders_of_four, side_by_side
 from layout import Library, inner
 from machine import Machine, unknown_value
 from pieces import HASHER, Hasher
@@ -103,12 +103,24 @@ class Arguments:
 
     def words(self, count: int) -> List[Word]:
         """Words in memory."""
-        return self.m.memory.load(number(self.value()), count)
+        return self.m.memory.load(self.place(), count)
+
+    def place(self) -> int:
+        """The place of something in memory."""
+        return self.m.memory.place_of(some(self.value()))
 
     def lanes(self, count: int, lanes: int) -> List[List[Word]]:
         """Words in memory that are side by side, those of each lane apart."""
         its = self.words(count * lanes)
         return [its[j::lanes] for j in range(lanes)]
+
+    def four_places(self) -> List[int]:
+        """The places of four chunks, of which the function has to be checked."""
+        words = self.words(8)
+        places = [number(pair(*words[2 * j:2 * j + 2])) for j in range(4)]
+        if places not in orders_of_four().values():
+            raise Fault(f"four chunks at {places}, for which nothing is checked")
+        return places
 
     def of_vectors(self, count: int, blocks: int) -> List[Word]:
         """Words of one block or two in vectors."""
@@ -139,7 +151,7 @@ class Unknown:
 
     def stand_in(self, it: Callable[[Arguments], List[Word]]) -> Value:
         """Stores the result where the first argument says."""
-        self.m.memory.store(self.m.number(self.m.ARGUMENTS[0]), it(Arguments(self.library, self.m)))
+        self.m.memory.store(Arguments(self.library, self.m).place(), it(Arguments(self.library, self.m)))
         return unknown_value()
 
     def compress(self, h: Sequence[Word], m: Sequence[Word], counter: Value, length: Word, flags: Word) -> List[Word]:
@@ -168,10 +180,8 @@ class Unknown:
 
     def four_chunks(self, its: Arguments) -> List[Word]:
         its.value()
-        key, chunks, places, first = its.of_vectors(8, 1), number(its.value()), its.words(8), its.value()
-        return side_by_side(
-            self.chunk(key, self.m.memory.load(chunks + 1024 * place, 256), add_64(first, place))
-            for place in (number(pair(*places[2 * j:2 * j + 2])) for j in range(4)))
+        key, chunks, places, first = its.of_vectors(8, 1), number(its.value()), its.four_places(), its.value()
+        return side_by_side(self.chunk(key, self.m.memory.load(chunks + 1024 * place, 256), add_64(first, place)) for place in places)
 
     def chunk(self, key: List[Word], words: List[Word], counter: Value) -> List[Word]:
         """The value of a whole chunk."""

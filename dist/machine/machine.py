@@ -240,7 +240,7 @@ class Machine(ABC):
         """Does what a function of the C library or of the heap does, and gives its result."""
         first, second, third = self.ARGUMENTS[:3]
         if name in ("memcpy", "memmove"):
-            places = [some(self.general[register]) for register in (first, second, third)]
+            places = [self.memory.in_list(some(self.general[register])) for register in (first, second, third)]
             if all(isinstance(its, int) for its in places):
                 return self._copy(self.number(first), self.number(second), self.number(third), name == "memcpy")
             self._must_be_apart(*places)

@@ -2,11 +2,14 @@
 
 from __future__ import annotations
 
-from typing import Callable, Dict, List, Tuple
+from typing import Callable, Dict, List, Optional, Set, Tuple
 
-from bits import Some, add, known, less, span
+from bits import Items, Number, Some, add, known, less, span
 from fault import Fault
 from words import Word, byte, from_bytes, node, unknown
+
+#: Where the window begins of a list of values.
+WINDOW = 3 << 60
 
 
 class Memory:
@@ -21,9 +24,40 @@ class Memory:
         self.regions: List[Tuple[int, Some, bool]] = []
         #: What a word is that nobody has written, by its place.
         self.first_word: Callable[[int], Word] = lambda place: unknown()
+        #: Where a list of values starts and ends, whether its own places were used, and the bits on which those depend that were used instead.
+        self.list: Tuple[int, int] = (0, 0)
+        self.is_list_used = False
+        self.window: Optional[Number] = None
 
     def add_region(self, start: int, size: Some, is_writable: bool) -> None:
         self.regions.append((start, add(size, start), is_writable))
+
+    def add_list(self, start: int, size: int) -> None:
+        """Adds a region in which values may be used whose place isn't known."""
+        self.add_region(start, size, True)
+        self.list = start, start + size
+
+    def in_list(self, address: Some) -> Some:
+        """An address, or what stands for it if it is in the list and depends on unknown bits: its place in the window, as if the sum of these
+        bits were nothing. A run that uses the window may use no other place of the list than by the same bits, so that none has two names."""
+        start, end = self.list
+        bounds = span(address) if isinstance(address, Number) and not self.is_list_used else None
+        if bounds is None or not start <= bounds[0] <= bounds[1] < end:
+            return address
+        assert isinstance(address, Number)
+        if self.window is None:
+            self.window = address
+            least, most = (its - address.constant for its in bounds)
+            self.add_region(WINDOW - least, end - start - (most - least), True)
+        return address if address.items != self.window.items else WINDOW + address.constant - start
+
+    def place_of(self, address: Some) -> int:
+        """The place of an address, of which each bit has to be known unless it is in the list."""
+        return known(self.in_list(address))
+
+    def window_places(self) -> Set[int]:
+        """The places of words of the window."""
+        return {place for place in self.words if WINDOW <= place + (1 << 32) < WINDOW + (1 << 33)} if self.window is not None else set()
 
     def add_stack(self, start: int, size: int) -> None:
         """Adds the region that is the stack from now on."""
@@ -80,8 +114,16 @@ class Memory:
                     start + size <= end if isinstance(end, int) else not less(end, start + size)):
                 if i:
                     self.regions.insert(0, self.regions.pop(i))
+                self._use_list(first)
                 return
         raise Fault(f"{'write' if is_write else 'read'} of {size} bytes at {start:#x}, outside what may be used")
+
+    def _use_list(self, first: int) -> None:
+        """Says that places in the region that starts somewhere are used, which may be the list."""
+        if first == self.list[0]:
+            self.is_list_used = True
+            if self.window is not None:
+                known(self.window)
 
     def _word(self, place: int) -> Word:
         """The word at a multiple of 4. One that nobody has written is unknown, and stays the same: padding is copied along."""
@@ -131,6 +173,7 @@ class Memory:
         end = add(start, count)
         for first, its, is_writable in self.regions:
             if (is_writable or not is_write) and not less(start, first) and not less(its, end):
+                self._use_list(first)
                 return
         raise Fault(f"{'write' if is_write else 'read'} of {count!r} bytes at {start!r}, outside what may be used")
 

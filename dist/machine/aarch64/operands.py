@@ -115,10 +115,10 @@ class Place:
         if not isinstance(base, int):
             if self.is_changed_before or self.change:
                 bits.known(base)
-            return bits.known(bits.add(bits.add(base, self.offset), self._index(m)))
+            return m.memory.place_of(bits.add(bits.add(base, self.offset), self._index(m)))
         if self.base.number == SP and base % 16:
             raise Fault("the stack pointer isn't a multiple of 16")
-        address = bits.known(bits.add(self._index(m), base + self.offset & M64))
+        address = m.memory.place_of(bits.add(self._index(m), base + self.offset & M64))
         if self.is_changed_before or self.change:
             self.base.put(m, (address if self.is_changed_before else base) + self.change & M64)
         return address

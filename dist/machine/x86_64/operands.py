@@ -107,7 +107,7 @@ class Place:
                     raise Fault("an address depends on data")
         address &= M64
         if rest:
-            address = bits.known(bits.add(rest, address))
+            address = m.memory.place_of(bits.add(rest, address))
         if address % alignment:
             raise Fault(f"{address:#x} isn't a multiple of {alignment}")
         return address
