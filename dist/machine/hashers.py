@@ -66,16 +66,20 @@ def run_keyed_hash(course: Course, its: Class) -> None:
 
 def stand_in_for_hasher(course: Course, calls: List[Tuple[object, ...]]) -> None:
     """Stands in for `update` of a new hasher, and for `finalize`."""
+    updated: List[Word] = [node("in", "updated", k) for k in range(HASHER_SIZE // 4)]
+
     def update(its: Arguments) -> None:
         hasher, place, length = number(its.value()), some(its.value()), some(its.value())
         words = course.m.memory.load(hasher, HASHER_SIZE // 4)
         if words[:8] != words[8:16]:
             raise Fault("a new hasher with another chaining value than the key")
         calls.append((hasher, tuple(words[:16]), words[COUNT // 4], words[COUNT // 4 + 1], place, length))
-        course.m.memory.store(hasher + COUNT, [low(length), high(length)])
+        course.m.memory.store(hasher, updated)
 
     def finalize(its: Arguments) -> None:
         result, hasher = number(its.value()), number(its.value())
+        if course.m.memory.load(hasher, HASHER_SIZE // 4) != updated:
+            raise Fault("the hash of another hasher")
         calls.append((hasher,))
         course.m.memory.store(result, [node("in", "hash", k) for k in range(8)])
 
@@ -136,6 +140,7 @@ def run_finalize(course: Course, its: Class) -> None:
         its_value = theory.parent_value(key, waiting(k), its_value, 0 if k else ROOT)
     must_be(course.words(RESULT, 8), its_value, "finalize")
     course.must_keep(HASHER, HASHER + COUNT, "the hasher")
+    must_be(course.words(HASHER + COUNT, 2), [low(count), high(count)], "the count")
 
 
 # ---- All checks

@@ -17,6 +17,7 @@ from levels import Level, levels, levels_for_windows  # noqa: E402
 from x86_64.machine import X86, WindowsX86  # noqa: E402
 
 if TYPE_CHECKING:
+    from inlined import Copy
     from machine import Machine, Step
 
 #: The levels, by their names.
@@ -52,6 +53,8 @@ class Library:
         self.image = linked(files, compiler, binutils, _OPTIONS[level.processor], work)
         #: What the instructions do that were met, and where the next one is.
         self.decoded: Dict[int, Tuple[Step, int]] = {}
+        #: Copies of compress in other functions, once they have been looked for.
+        self.copies: Optional[List[Copy]] = None
 
     @property
     def kind(self) -> "Type[Machine]":

@@ -9,17 +9,19 @@ from __future__ import annotations
 import random
 from functools import partial
 from itertools import accumulate
-from typing import Callable, Dict, Iterator, List, Optional, Sequence, Tuple, Type
+from typing import Callable, Dict, Iterator, List, Sequence, Tuple
 
+import inlined
 from calls import DATA_KEY, MESSAGE, RESULT, Caller, bytes_of, check_hash_of
 from definition import CHUNK_END, CHUNK_START, KEYED_HASH, PARENT, ROOT, compress, words_at
 from fault import Fault, number, some
+from inlined import Copy, copies
 from kernels import FOUR_CHUNKS, FOUR_PARENTS, VALUE_VECTORS, beside, orders_of_four, side_by_side
 from layout import Library, inner
 from machine import Machine, unknown_value
 from pieces import HASHER, Hasher
 from widths import WIDTHS, of_width
-from words import Value, Word, add_64, forget, high, low, masked, pair, symbol
+from words import Value, Word, add, add_64, forget, high, low, masked, pair, symbol
 
 #: How many bytes the largest chunk of Xet has.
 LARGEST = 131072
@@ -148,6 +150,7 @@ class Unknown:
         for name, it in its.items():
             if library.has(inner(name)):
                 m.stand_ins[library.image.function(inner(name))] = partial(self.stand_in, it)
+        m.pieces = {copy.start: partial(self.copy, copy) for copy in copies(library)}
 
     def stand_in(self, it: Callable[[Arguments], List[Word]]) -> Value:
         """Stores the result where the first argument says."""
@@ -160,6 +163,22 @@ class Unknown:
         if key not in self.made:
             self.made[key] = [symbol(f"compression {len(self.made)} {k}") for k in range(8)]
         return self.made[key]
+
+    def copy(self, its: Copy) -> int:
+        """Does what a copy of `compress` does. Returns where the code goes on."""
+        m, right = self.m, [0] * 8
+        key = m.memory.load(m.memory.place_of(some(m.general[its.hasher])), 8)
+        for where, (role, k) in its.roles.items():
+            word = inlined.word_at(m, where)
+            if role == "right":
+                right[k] = word
+            elif word != (key[k] if role == "key" else add(key[k], key[(k + 4) % 8])):
+                raise Fault("a copy of compress begins with another key")
+        value = self.compress(key, [*m.memory.load(its.left.address(m), 8), *right], 0, 64, KEYED_HASH + PARENT)
+        inlined.forget(m, its.changed)
+        for where, k in its.results.items():
+            inlined.put(m, where, value[k])
+        return its.end
 
     def one(self, its: Arguments) -> List[Word]:
         its.value()
@@ -209,14 +228,6 @@ class Unknown:
         return side_by_side(self.compress(h[j], blocks[j], 0, lengths[j], flags[j]) for j in range(lanes))
 
 
-class Defined(Unknown):
-    """The same functions as the definition has them. At x86-64-v3 LLVM has moved one compression into its caller, whose result would be
-    another than an unknown function's."""
-
-    def compress(self, h: Sequence[Word], m: Sequence[Word], counter: Value, length: Word, flags: Word) -> List[Word]:
-        return list(compress(h, m, counter, length, flags))
-
-
 # ---- The checks
 
 
@@ -225,21 +236,12 @@ def words_of(length: int) -> List[Word]:
     return [symbol(f"message {i}") for i in range((length + 3) // 4)]
 
 
-def by_either(check: Callable[[Type[Unknown]], Machine]) -> Machine:
-    """A check in which unknown functions compress blocks, or else those of the definition."""
-    try:
-        return check(Unknown)
-    except Fault:
-        return check(Defined)
-
-
-def check_length(library: Library, length: int, functions: Type[Unknown]) -> Machine:
-    """`data_hash` of a message of a length, whose blocks are compressed by other functions."""
+def check_length(library: Library, length: int) -> Machine:
+    """`data_hash` of a message of a length, whose blocks are compressed by unknown functions."""
     forget()
     words, caller = words_of(length), Caller(library)
     m = caller.m
-    # The definition comes first, so that words.py has its words in the same order.
-    wanted = Message(functions(library, m).compress, words_at(8, list(DATA_KEY)), words, length, {}).hash()
+    wanted = Message(Unknown(library, m).compress, words_at(8, list(DATA_KEY)), words, length, {}).hash()
     m.memory.put_words(MESSAGE, words)
     m.memory.add_region(MESSAGE, length, False)
     m.memory.add_region(RESULT, 32, True)
@@ -249,13 +251,13 @@ def check_length(library: Library, length: int, functions: Type[Unknown]) -> Mac
     return m
 
 
-def check_after(library: Library, chunks: int, lengths: Sequence[int], functions: Optional[Type[Unknown]]) -> Machine:
-    """A hasher that has taken so many chunks, of any values, and then gets pieces. Blocks are compressed by other functions, or else by
-    those of the library, which are the definition's."""
+def check_after(library: Library, chunks: int, lengths: Sequence[int], is_known: bool) -> Machine:
+    """A hasher that has taken so many chunks, of any values, and then gets pieces. Blocks are compressed by unknown functions, or by those
+    of the library, which are the definition's."""
     forget()
     words, key, before, caller = words_of(sum(lengths)), bytes_of("key", 32), subtrees_before(chunks), Caller(library)
     m = caller.m
-    compression: Compress = functions(library, m).compress if functions else compress
+    compression: Compress = compress if is_known else Unknown(library, m).compress
     wanted = Message(compression, words_at(8, key), words, sum(lengths), before).hash()
     hasher = Hasher(caller, "keyed", key)
     m.memory.put_words(SUBTREES, [word for subtree in before.values() for word in subtree])
@@ -292,7 +294,6 @@ def run_all(library: Library) -> Iterator[Machine]:
     draws = random.Random(5)
     yield check_hash_of(library, "data_hash", [draws.getrandbits(8) for _ in range(LARGEST)])
     for length in LENGTHS:
-        yield by_either(partial(check_length, library, length))
+        yield check_length(library, length)
     for chunks, lengths, is_known in after(library.level.lanes):
-        after_these = partial(check_after, library, chunks, lengths)
-        yield after_these(None) if is_known else by_either(after_these)
+        yield check_after(library, chunks, lengths, is_known)

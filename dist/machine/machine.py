@@ -99,6 +99,8 @@ class Machine(ABC):
         self.branches: Set[Tuple[int, bool]] = set()
         #: Functions that are replaced, by their places, and what is done instead.
         self.stand_ins: Dict[int, Callable[[], Value]] = {}
+        #: Pieces of functions that are replaced, by their places, and what is done instead. It returns where the code goes on.
+        self.pieces: Dict[int, Callable[[], int]] = {}
         self._heap = 0x60000000
         for segment in image.segments:
             if not segment.is_code:
@@ -181,6 +183,8 @@ class Machine(ABC):
                 self.stack_before = self.number(self.STACK)
                 to = step(self)
                 at = following if to is None else to
+                if at in self.pieces:
+                    at = self.pieces[at]()
                 if at in _OUTSIDE or at in self.stand_ins:
                     to = self.end_call()
                     self.leave(to)
