@@ -10,7 +10,8 @@
  *   that is as long as it will be is made by one request.
  * - A node of the map of runs has room for several runs, and is made for each sixth or eleventh of them.
  * - The JSON of a run of one chunk and of a hash has 3 objects, with 9 names, and 4 arrays. To be read it is made a tree twice, one after
- *   the other. In one of them an object takes about 1,000 bytes. A list and a text double their room when it is used up.
+ *   the other. In one of them an object takes about 1,000 bytes. It is written to one text. A list and a text double their room when it is
+ *   used up.
  * - A put copies its chunks, lists the new hashes, keeps them, and makes a subtree. One right before a run makes an entry, and an
  *   empty subtree for it, too.
  */
@@ -199,7 +200,7 @@ static const struct {
     {"keep_hashes of one hash", keep_one_by_one, 3, 420},
     {"keep_hashes of all", keep_all, 0, 320},
     {"known_hashes", known, 0, 32},
-    {"to_json", to_json, 22, 5000},
+    {"to_json", to_json, 0, 840},
     {"from_json", from_json, 47, 8600},
     {"data_hashes", data_hashes, 0, 0},
 };

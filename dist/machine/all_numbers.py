@@ -3,16 +3,18 @@
 from __future__ import annotations
 
 import re
-from functools import partial
 from itertools import chain
 from typing import Iterator, List, Sequence, Tuple
 
 import contracts
+import exports
 import hashers
+import kernels
 import rounds
-from contracts import Check, Course
+from course import Check, Course
+from fault import Fault
 from layout import Library
-from long_messages import by_either, check_length
+from long_messages import check_length
 from machine import Machine
 
 #: What no level is run for.
@@ -31,9 +33,16 @@ def function_of(check: Check) -> str:
     return found[0]
 
 
+def must_check_stand_ins(course: Course) -> None:
+    """Refuses functions that were replaced in checks of others, and have none of their own, here or among the kernels."""
+    missing = course.replaced - course.checked - {function for function, _, _ in kernels.all_checks(course.library)}
+    if missing:
+        raise Fault(f"replaced, but not checked: {', '.join(sorted(missing))}")
+
+
 def checks(course: Course) -> Iterator[Check]:
     """The checks of a level."""
-    return chain(contracts.checks(course), hashers.checks(course), rounds.checks(course))
+    return chain(contracts.checks(course), hashers.checks(course), rounds.checks(course), exports.checks(course))
 
 
 def lengths(is_short: bool) -> List[int]:
@@ -45,4 +54,4 @@ def lengths(is_short: bool) -> List[int]:
 def whole_messages(library: Library, is_short: bool) -> Iterator[Tuple[int, Machine]]:
     """Runs whole messages whose blocks are compressed by unknown functions; gives each length, and the machine that ran it."""
     for length in lengths(is_short):
-        yield length, by_either(partial(check_length, library, length))
+        yield length, check_length(library, length)

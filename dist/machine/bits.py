@@ -5,21 +5,22 @@ bits are one object. Sums, differences, products with numbers, and shifts and ma
 count adds up, one by one or in parallel, it is the plain sum. What isn't such a sum, or depends on the bits, as a branch may, raises a
 `Split`: explore.py then goes on for each answer to its question.
 
-A `Class` is what is known of the bits: some of them, and how many of some others are set. Each unknown bit also has a value that fits the
-class, and so each Number has a number, by which its arithmetic is checked as that of words.py is.
+A `Class` is what is known of the bits: some of them, how many of some others are set, and lists of which one holds. Each unknown bit also
+has a value that fits the class, and so each Number has a number, by which its arithmetic is checked as that of words.py is.
 """
 
 from __future__ import annotations
 
 import random
-from typing import Dict, FrozenSet, List, Optional, Tuple, Union
+from typing import Dict, FrozenSet, Iterable, List, Optional, Tuple, Union
 
 M32 = 0xFFFFFFFF
 M64 = 0xFFFFFFFFFFFFFFFF
 
 _DRAWS = random.Random(3)
 
-#: A question about a number: which value a bit has; how many of some bits are set; or whether any of some bits is set, in their order.
+#: A question about a number: which value a bit has; how many of some bits are set; or whether any of a list holds, where b says that bit b
+#: is set, and ~b that it isn't.
 Question = Union[int, FrozenSet[int], Tuple[int, ...]]
 #: Answers to questions, in the order in which they were asked.
 Answers = Tuple[Tuple[Question, int], ...]
@@ -40,8 +41,17 @@ class Impossible(Exception):
     """No number has these answers."""
 
 
+class Beyond(Exception):
+    """No number with these answers is one for which something is promised."""
+
+
+def bit_of(said: int) -> int:
+    """The bit of which b or ~b says something."""
+    return said if said >= 0 else ~said
+
+
 class Class:
-    """What is known of bits: the values of some, how many of some others are set, and of which sets at least one is set."""
+    """What is known of bits: the values of some, how many of some others are set, and of which lists at least one holds."""
 
     def __init__(self, answers: Answers) -> None:
         self.answers = answers
@@ -56,11 +66,13 @@ class Class:
             elif answer:
                 self.any.append(frozenset(question))
             else:
-                for bit in question:
-                    self._know(bit, 0)
+                for said in question:
+                    self._know(bit_of(said), int(said < 0))
         while any([*map(self._reduce, range(len(self.sums))), self._reduce_any()]):
             pass
         self.sums = [its for its in self.sums if its[0]]
+        # A list with all of another one says nothing more.
+        self.any = [its for i, its in enumerate(self.any) if not any(other < its or other == its and i > k for k, other in enumerate(self.any))]
         self.values: Dict[int, int] = {}
         self._choose()
 
@@ -83,29 +95,36 @@ class Class:
         return True
 
     def _reduce_any(self) -> bool:
-        """Takes the known bits from the sets of which one bit is set. Returns whether others have become known."""
-        left = [frozenset(bit for bit in its if bit not in self.known) for its in self.any if not any(self.known.get(bit) for bit in its)]
+        """Takes the known bits from the lists of which one holds. Returns whether others have become known."""
+        left = [frozenset(said for said in its if bit_of(said) not in self.known) for its in self.any if not self._one_holds(its, self.known)]
         self.any = [its for its in left if len(its) > 1]
         if not all(left):
-            raise Impossible("no bit is set")
+            raise Impossible("none of a list holds")
         for its in left:
             if len(its) == 1:
-                self._know(min(its), 1)
+                self._know(bit_of(min(its)), int(min(its) >= 0))
         return len(self.any) < len(left)
 
+    @staticmethod
+    def _one_holds(its: Iterable[int], values: Dict[int, int]) -> bool:
+        """Whether one of a list holds for some values of bits."""
+        return any(values.get(bit_of(said)) == int(said >= 0) for said in its)
+
     def _choose(self) -> None:
-        """Gives the bits that are in sums or sets values that fit."""
+        """Gives the bits that are in sums or lists values that fit."""
         for _ in range(1000):
             self.values = dict(self.known)
             for its, count in self.sums:
                 chosen = _DRAWS.sample(sorted(its), count)
                 self.values.update({bit: int(bit in chosen) for bit in its})
             for its in self.any:
-                for bit in its:
-                    self.value(bit)
-                if not any(map(self.value, its)):
-                    self.values[_DRAWS.choice(sorted(its))] = 1
-            if all(sum(map(self.value, its)) == count for its, count in self.sums):
+                for said in its:
+                    self.value(bit_of(said))
+                if not self._one_holds(its, self.values):
+                    chosen_one = _DRAWS.choice(sorted(its))
+                    self.values[bit_of(chosen_one)] = int(chosen_one >= 0)
+            if all(sum(map(self.value, its)) == count for its, count in self.sums) and all(
+                    self._one_holds(its, self.values) for its in self.any):
                 return
         raise AssertionError("no number is found that has these answers")
 
@@ -245,32 +264,58 @@ def _signed(factor: int) -> int:
 
 
 def _greatest(factors: Factors) -> Question:
-    """The bit that makes the most difference; or how many bits are set, if all make the same, as in a population count."""
-    sizes = {bit: abs(_signed(factor)) for bit, factor in factors.items() if factor}
-    if len(sizes) > 1 and len(set(factors.values())) == 1:
-        return frozenset(sizes)
-    return max(sizes, key=lambda bit: (sizes[bit], bit))
+    """The bit that makes the most difference; or how many bits are set, if several make the same, as in a population count, or in the sum of
+    two numbers."""
+    sizes = {bit: (abs(_signed(factor)), factor) for bit, factor in factors.items() if factor}
+    its = [bit for bit, size in sizes.items() if size == max(sizes.values())]
+    return frozenset(its) if len(its) > 1 else its[0]
+
+
+def _signed_factors(value: Some) -> Factors:
+    return {bit: _signed(factor) for bit, factor in _parts(value)[1].items()}
+
+
+def _moved(factors: Factors, sign: int) -> int:
+    """How much more than the least (or less than the most, for the sign -1) a sum of bits is, because one of a list holds."""
+    most = 0
+    for its in _class.any:
+        least: Optional[int] = None
+        for said in its:
+            factor = factors.get(said, 0) if said >= 0 else -factors.get(~said, 0)
+            if factor * sign <= 0:
+                break
+            least = factor * sign if least is None else min(least, factor * sign)
+        else:
+            most = max(most, least or 0)
+    return most
+
+
+def _sum_bounds(constant: int, factors: Factors) -> Tuple[int, int]:
+    """The least and the most that a sum may be, whose factors may be negative, whatever the lists say."""
+    return constant + sum(its for its in factors.values() if its < 0), constant + sum(its for its in factors.values() if its > 0)
+
+
+def _sum_span(constant: int, factors: Factors) -> Tuple[int, int]:
+    """The least and the most that a sum may be, whose factors may be negative."""
+    least, most = _sum_bounds(constant, factors)
+    return least + _moved(factors, 1), most - _moved(factors, -1)
+
+
+def _span(value: Number) -> Tuple[int, int]:
+    """The least and the most that a value may be, as a sum that may pass 2^64, or be negative."""
+    if value._span is None:
+        value._span = _sum_span(value.constant, _signed_factors(value))
+    return value._span
 
 
 def span(value: Some) -> Optional[Tuple[int, int]]:
     """The least and the most that a value may be. None, if it passes 2^64 for some bits, and not for others."""
     if not isinstance(value, Number):
         return value, value
-    if value._span is None:
-        signed = [_signed(factor) for factor in value.factors.values()]
-        least = value.constant + sum(its for its in signed if its < 0) + _least_of_any(value.factors)
-        most = value.constant + sum(its for its in signed if its > 0)
-        value._span = (least, most)
-    least, most = value._span
+    least, most = _span(value)
     if least >> 64 != most >> 64:
         return None
     return least & M64, most & M64
-
-
-def _least_of_any(factors: Factors) -> int:
-    """The least that some bits add if one of them is set, as one is known to be."""
-    return max((
-        min(factors[bit] for bit in its) for its in _class.any if all(0 < factors.get(bit, 0) <= 1 << 63 for bit in its)), default=0)
 
 
 def must_span(value: Some) -> Tuple[int, int]:
@@ -278,6 +323,8 @@ def must_span(value: Some) -> Tuple[int, int]:
     found = span(value)
     if found is None:
         assert isinstance(value, Number)
+        factors = _signed_factors(value)
+        _ask_whether_moved(factors, -1, _sum_bounds(value.constant, factors)[1] & M64)
         raise Split(_greatest(value.factors))
     return found
 
@@ -289,34 +336,40 @@ def less(x: Some, y: Some) -> bool:
         return _told(True, x, y)
     if least_x >= most_y:
         return _told(False, x, y)
-    factors: Factors = {bit: _signed(factor) for bit, factor in _parts(x)[1].items()}
-    others = {bit: _signed(factor) for bit, factor in _parts(y)[1].items()}
-    least = _constant(x, most_x, factors) - _constant(y, most_y, others)
+    factors, others = _signed_factors(x), _signed_factors(y)
+    constant = _constant(x, most_x, factors) - _constant(y, most_y, others)
     for bit, factor in others.items():
         factors[bit] = factors.get(bit, 0) - factor
     added, factors = _without_sums(factors)
-    least += added
-    if least + sum(its for its in factors.values() if its > 0) < 0:
+    least, most = _sum_span(constant + added, factors)
+    if most < 0:
         return _told(True, x, y)
-    if least + sum(its for its in factors.values() if its < 0) >= 0:
+    if least >= 0:
         return _told(False, x, y)
-    if isinstance(x, Number) and isinstance(y, int):
-        _ask_upper(x, (y - 1).bit_length())
-    if isinstance(x, int) and isinstance(y, Number):
-        _ask_upper(y, x.bit_length())
+    least, most = _sum_bounds(constant + added, factors)
+    _ask_whether_moved(factors, 1, -least - 1)
+    _ask_whether_moved(factors, -1, most)
     raise Split(_greatest(factors))
+
+
+def _ask_whether_moved(factors: Factors, sign: int, enough: int) -> None:
+    """Asks whether a bit is other than in the least sum (the most, for the sign -1), of those each of which alone makes it differ from
+    that by more than something."""
+    _ask_any(bit if factor * sign > 0 else ~bit for bit, factor in factors.items() if abs(factor) > enough)
+
+
+def _ask_any(said: Iterable[int]) -> None:
+    """Asks whether any of a list holds, if it has more than one, and that isn't known."""
+    its = tuple(sorted(said))
+    if len(its) > 1 and not any(known <= set(its) for known in _class.any):
+        raise Split(its)
 
 
 def _constant(value: Some, most: int, factors: Factors) -> int:
     """The constant of a value, as a sum that doesn't pass 2^64."""
-    return most - sum(its for its in factors.values() if its > 0)
-
-
-def _ask_upper(value: Number, place: int) -> None:
-    """Asks whether any bit from a place on is set, of a value that is a plain sum of bits at places of their own."""
-    upper = tuple(sorted(bit for bit, factor in value.factors.items() if factor >> place))
-    if len(upper) > 1 and value.constant >> place == 0 and all(factor & factor - 1 == 0 for factor in value.factors.values()):
-        raise Split(upper)
+    if not isinstance(value, Number):
+        return value
+    return value.constant - (_span(value)[1] - most)
 
 
 def _told(answer: bool, x: Some, y: Some) -> bool:
@@ -329,14 +382,18 @@ def is_zero(value: Some) -> bool:
     """Whether a value is 0."""
     if not isinstance(value, Number):
         return value == 0
-    least = min(factor & -factor for factor in value.factors.values())
+    unit = min(factor & -factor for factor in value.factors.values())
     bounds = span(value)
-    if value.constant & least - 1 or bounds and bounds[0] > 0:
+    if value.constant & unit - 1 or bounds and bounds[0] > 0:
         if value.number == 0:
             raise AssertionError(f"{value!r} isn't 0")
         return False
-    if value.constant == 0 and bounds and bounds[0] == 0:
-        _ask_upper(value, 0)
+    factors = _signed_factors(value)
+    least, most = _sum_bounds(value.constant, factors)
+    if most - least < 1 << 64:
+        for bound, sign in ((least, 1), (most, -1)):
+            if bound & M64 == 0:
+                _ask_whether_moved(factors, sign, 0)
     raise Split(_greatest(value.factors))
 
 
@@ -345,12 +402,6 @@ def equal(x: Some, y: Some) -> bool:
 
 
 # ---- Parts of a value
-
-
-def _sum_span(constant: int, factors: Factors) -> Tuple[int, int]:
-    """The least and the most that a sum may be, whose factors may be negative."""
-    negative, positive = sum(its for its in factors.values() if its < 0), sum(its for its in factors.values() if its > 0)
-    return constant + negative + _least_of_any(factors), constant + positive
 
 
 def _at_place(value: Number, place: int) -> Tuple[int, Factors, Factors]:
@@ -372,8 +423,12 @@ def _at_place(value: Number, place: int) -> Tuple[int, Factors, Factors]:
         least, most = _sum_span(below, lower)
         if 0 <= least and most < unit:
             return below, lower, upper
-    if lower and constant and all(its > 0 for its in lower.values()):
-        _ask_any(lower)
+    for below in (constant, constant - unit):
+        least, most = _sum_bounds(below, lower)
+        if least >= 0:
+            _ask_whether_moved(lower, -1, most - unit)
+        if most < unit:
+            _ask_whether_moved(lower, 1, -least - 1)
     raise Split(_greatest(lower or value.factors))
 
 
@@ -390,12 +445,6 @@ def cut(value: Some, place: int) -> Tuple[Some, Some]:
         if 0 <= least + turn and most + turn < 1 << 64 - place:
             return (_checked(_made(below, lower), value.number % (1 << place)), _checked(_made(above + turn, upper), value.number >> place))
     raise Split(_greatest(value.factors))
-
-
-def _ask_any(factors: Factors) -> None:
-    """Asks whether any of some bits is set, if that isn't known."""
-    if len(factors) > 1 and not _least_of_any(factors):
-        raise Split(tuple(sorted(factors)))
 
 
 def shift_right(value: Some, count: int) -> Some:

@@ -83,14 +83,14 @@ def lanes_for(chunks: int, most: int) -> Set[int]:
     return {next(lanes for lanes in WIDTHS if lanes >= min(chunks, most))}
 
 
-def must_take(library: Library, wanted: Set[int], run: Callable[[], Machine], what: str) -> Machine:
-    """Runs a call, which has to take chunks in this number of lanes. Nothing else can show that: a hash is right in any."""
+def must_take(library: Library, kernel: str, wanted: Set[int], run: Callable[[], Machine], what: str) -> Machine:
+    """Runs a call in which a kernel has to run with this number of lanes. Nothing else can show that: a hash is right in any."""
     kept = dict(library.decoded)
     library.decoded.clear()
     m = run()
     met = {library.image.instructions[at].function for at in library.decoded}
     library.decoded.update(kept)
-    found = {lanes for lanes in WIDTHS if inner(of_width("chunks::take_block", lanes)) in met}
+    found = {lanes for lanes in WIDTHS if inner(of_width(kernel, lanes)) in met}
     if found != wanted:
         raise Fault(f"{what} are hashed in lanes by {sorted(found)}, not by {sorted(wanted)}")
     return m
@@ -99,7 +99,7 @@ def must_take(library: Library, wanted: Set[int], run: Callable[[], Machine], wh
 def check_lanes(library: Library, chunks: int) -> Machine:
     """How many lanes a message of some chunks takes."""
     run = partial(check_hash, library, "data_hash", 1024 * chunks)
-    return must_take(library, lanes_for(chunks, library.level.lanes), run, f"{chunks} chunks")
+    return must_take(library, "chunks::chunk_values", lanes_for(chunks, library.level.lanes), run, f"{chunks} chunks")
 
 
 def check_hmac(library: Library) -> Machine:

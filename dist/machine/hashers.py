@@ -6,15 +6,16 @@ from functools import partial
 from typing import Iterator, List, Sequence, Tuple
 
 import bits
-from bits import Answers, Class, Some
+from bits import Class, Some
 from calls import INTERNAL_KEY
-from contracts import (
-    BLOCK, COUNT, HASHER, HASHER_SIZE, KEY, MESSAGE, OPEN, RESULT, WAITING, Check, Course, Theory, at_place, must_be,
+from course import (
+    BLOCK, COUNT, HASHER, HASHER_SIZE, KEY, MESSAGE, OPEN, RESULT, Check, Course, Theory, add_hasher, at_place, must_be,
 )
 from definition import CHUNK_END, CHUNK_START, KEYED_HASH, ROOT, words_at
 from fault import Fault, number, some
 from long_messages import Arguments
 from memory import overwritten
+from source import below, blocks_before_last, ends_with_chunk, waiting
 from words import Word, high, low, node
 
 
@@ -65,16 +66,20 @@ def run_keyed_hash(course: Course, its: Class) -> None:
 
 def stand_in_for_hasher(course: Course, calls: List[Tuple[object, ...]]) -> None:
     """Stands in for `update` of a new hasher, and for `finalize`."""
+    updated: List[Word] = [node("in", "updated", k) for k in range(HASHER_SIZE // 4)]
+
     def update(its: Arguments) -> None:
         hasher, place, length = number(its.value()), some(its.value()), some(its.value())
         words = course.m.memory.load(hasher, HASHER_SIZE // 4)
         if words[:8] != words[8:16]:
             raise Fault("a new hasher with another chaining value than the key")
         calls.append((hasher, tuple(words[:16]), words[COUNT // 4], words[COUNT // 4 + 1], place, length))
-        course.m.memory.store(hasher + COUNT, [low(length), high(length)])
+        course.m.memory.store(hasher, updated)
 
     def finalize(its: Arguments) -> None:
         result, hasher = number(its.value()), number(its.value())
+        if course.m.memory.load(hasher, HASHER_SIZE // 4) != updated:
+            raise Fault("the hash of another hasher")
         calls.append((hasher,))
         course.m.memory.store(result, [node("in", "hash", k) for k in range(8)])
 
@@ -115,7 +120,7 @@ def run_finalize(course: Course, its: Class) -> None:
     theory = course.begin(its)
     memory = course.m.memory
     count = bits.variable(0, 64)
-    course.add_hasher()
+    add_hasher(memory)
     memory.put_words(HASHER + COUNT, [low(count), high(count)])
     memory.add_region(RESULT, 32, True)
     course.run("hasher::Hasher::finalize", [RESULT, HASHER])
@@ -135,28 +140,10 @@ def run_finalize(course: Course, its: Class) -> None:
         its_value = theory.parent_value(key, waiting(k), its_value, 0 if k else ROOT)
     must_be(course.words(RESULT, 8), its_value, "finalize")
     course.must_keep(HASHER, HASHER + COUNT, "the hasher")
-
-
-def waiting(k: int) -> List[Word]:
-    """The value that waits at a place."""
-    return [at_place(HASHER + WAITING + 32 * k + 4 * i) for i in range(8)]
-
-
-def ends_with_chunk(count: Some) -> bool:
-    """Whether a message of several chunks ends with a whole one."""
-    return bits.less(1024, count) and bits.is_zero(bits.low_bits(count, 10))
-
-
-def blocks_before_last(count: Some) -> Some:
-    return 0 if bits.is_zero(count) else bits.shift_right(bits.subtract(count, 1), 6)
+    must_be(course.words(HASHER + COUNT, 2), [low(count), high(count)], "the count")
 
 
 # ---- All checks
-
-
-def below(first: int, count: int, place: int) -> Answers:
-    """The answers of a number of some bits from bit `first` on, whose highest 1 is at a place."""
-    return tuple((first + i, int(i == place)) for i in reversed(range(place, count)))
 
 
 def checks(course: Course) -> Iterator[Check]:

@@ -47,7 +47,7 @@ def side_by_side(values: Iterable[Sequence[Word]]) -> List[Word]:
 
 def indices(places: Sequence[int]) -> List[Word]:
     """Numbers of 64 bits as words."""
-    return [word for place in places for word in (place, 0)]
+    return [word for place in places for word in (low(place), high(place))]
 
 
 class Kernel:
@@ -163,7 +163,8 @@ def check_chunk_values(library: Library, name: str, places: Sequence[int]) -> Ma
     """The chunks at some places, the first of which has any number: in as many lanes, or four at once."""
     forget()
     key, first = symbols("key", 8), counter_of("first")
-    chunks = [symbols(f"chunk {j}", 256) for j in range(len(places))]
+    # A chunk that is taken twice has the same words.
+    chunks = [symbols(f"chunk {places.index(place)}", 256) for place in places]
     wanted = Wanted(chunk_of_each, key, first, places, chunks)
     kernel = Kernel(library, name, [unknown() for _ in range(8 * len(places))])
     for place, chunk in zip(places, chunks):
@@ -191,14 +192,14 @@ def value_of_chunk(key: Sequence[Word], number: Value, words: Sequence[Word]) ->
     return value
 
 
-def check_parents(library: Library, name: str, lanes: int) -> Machine:
-    """The parents of neighbours (`parent_values`), or of those in the same lane (`values_above`)."""
+def check_parents(library: Library, lanes: int) -> Machine:
+    """The parents of neighbours."""
     forget()
     key = symbols("key", 8)
     left, right = ([symbols(f"{side} {j}", 8) for j in range(lanes)] for side in ("left", "right"))
     both = [*left, *right]
-    wanted = Wanted(parent_of_each, key, *((left, right) if name == "values_above" else (both[::2], both[1::2])))
-    kernel = Kernel(library, of_width(f"subtrees::{name}", lanes), [unknown() for _ in range(8 * lanes)])
+    wanted = Wanted(parent_of_each, key, both[::2], both[1::2])
+    kernel = Kernel(library, of_width("subtrees::parent_values", lanes), [unknown() for _ in range(8 * lanes)])
     for place, words in ((FIRST, key), (SECOND, side_by_side(left)), (THIRD, side_by_side(right))):
         kernel.give_at(place, words)
     return kernel.must_give(wanted, "parents")
@@ -220,8 +221,16 @@ def check_four_parents(library: Library, lanes: int) -> Machine:
 
 
 def orders(lanes: int) -> Dict[str, List[int]]:
-    """Places of as many chunks, in three orders."""
-    return {"in order": list(range(lanes)), "three apart": [3 * j for j in range(lanes)], "backwards": [lanes - j for j in range(lanes)]}
+    """Places of as many chunks, in three orders: far apart, they are as far as in a message of almost 2^63 bytes."""
+    return {
+        "in order": list(range(lanes)), "far apart": [(1 << 53) - 1 - j * 0x123456789ABCD for j in range(lanes)],
+        "backwards": [lanes - j for j in range(lanes)],
+    }
+
+
+def orders_of_four() -> Dict[str, List[int]]:
+    """The places from which four chunks are taken at once: the last one twice if there are three."""
+    return {**orders(4), "the last one twice": [0, 1, 2, 2]}
 
 
 def checks_of_width(library: Library, lanes: int) -> Iterator[Tuple[str, str, Callable[[], Machine]]]:
@@ -233,8 +242,7 @@ def checks_of_width(library: Library, lanes: int) -> Iterator[Tuple[str, str, Ca
         yield values, f"chunk_values of {lanes} lanes, {name}", partial(check_chunk_values, library, values, places)
     each = of_width("compression::lanes::take_in_each", lanes)
     yield each, f"take_in_each of {lanes} lanes", partial(check_take_in_each, library, lanes)
-    for parents in ("values_above", "parent_values"):
-        yield of_width(f"subtrees::{parents}", lanes), f"{parents} of {lanes} lanes", partial(check_parents, library, parents, lanes)
+    yield of_width("subtrees::parent_values", lanes), f"parent_values of {lanes} lanes", partial(check_parents, library, lanes)
     if lanes > 4:
         yield of_width(FOUR_PARENTS, lanes), f"four_parent_values of {lanes} lanes", partial(check_four_parents, library, lanes)
 
@@ -243,7 +251,7 @@ def all_checks(library: Library) -> Iterator[Tuple[str, str, Callable[[], Machin
     """The checks of all functions that a level could have, each with the function's name and its own."""
     yield "compression::compress", "compress", partial(check_compress, library)
     yield "compression::two::compress_two_from", "compress_two", partial(check_compress_two, library)
-    for name, places in orders(4).items():
+    for name, places in orders_of_four().items():
         yield FOUR_CHUNKS, f"four_chunk_values, {name}", partial(check_chunk_values, library, FOUR_CHUNKS, places)
     for lanes in WIDTHS:
         if lanes <= library.level.lanes:

@@ -9,12 +9,12 @@ from __future__ import annotations
 import random
 from functools import partial
 from itertools import accumulate
-from typing import Callable, Dict, Iterator, List, Optional, Sequence, Tuple, Type
+from typing import Callable, Dict, Iterator, List, Sequence, Tuple
 
 from calls import DATA_KEY, MESSAGE, RESULT, Caller, bytes_of, check_hash_of
 from definition import CHUNK_END, CHUNK_START, KEYED_HASH, PARENT, ROOT, compress, words_at
 from fault import Fault, number
-from kernels import FOUR_CHUNKS, FOUR_PARENTS, VALUE_VECTORS, beside, side_by_side
+from kernels import FOUR_CHUNKS, FOUR_PARENTS, VALUE_VECTORS, beside, orders_of_four, side_by_side
 from layout import Library, inner
 from machine import Machine, unknown_value
 from pieces import HASHER, Hasher
@@ -110,6 +110,14 @@ class Arguments:
         its = self.words(count * lanes)
         return [its[j::lanes] for j in range(lanes)]
 
+    def four_places(self) -> List[int]:
+        """The places of four chunks, of which the function has to be checked."""
+        words = self.words(8)
+        places = [number(pair(*words[2 * j:2 * j + 2])) for j in range(4)]
+        if places not in orders_of_four().values():
+            raise Fault(f"four chunks at {places}, for which nothing is checked")
+        return places
+
     def of_vectors(self, count: int, blocks: int) -> List[Word]:
         """Words of one block or two in vectors."""
         width, found = VALUE_VECTORS[self.level.name_for_linux][blocks - 1], []
@@ -131,7 +139,7 @@ class Unknown:
         }
         for lanes in WIDTHS:
             its[of_width(FOUR_PARENTS, lanes)] = partial(self.four_parents, lanes)
-            its[of_width("chunks::take_block", lanes)] = partial(self.take_block, lanes)
+            its[of_width("chunks::chunk_values", lanes)] = partial(self.chunk_values, lanes)
             its[of_width("compression::lanes::take_in_each", lanes)] = partial(self.take_in_each, lanes)
         for name, it in its.items():
             if library.has(inner(name)):
@@ -168,10 +176,8 @@ class Unknown:
 
     def four_chunks(self, its: Arguments) -> List[Word]:
         its.value()
-        key, chunks, places, first = its.of_vectors(8, 1), number(its.value()), its.words(8), its.value()
-        return side_by_side(
-            self.chunk(key, self.m.memory.load(chunks + 1024 * place, 256), add_64(first, place))
-            for place in (number(pair(*places[2 * j:2 * j + 2])) for j in range(4)))
+        key, chunks, places, first = its.of_vectors(8, 1), number(its.value()), its.four_places(), its.value()
+        return side_by_side(self.chunk(key, self.m.memory.load(chunks + 1024 * place, 256), add_64(first, place)) for place in places)
 
     def chunk(self, key: List[Word], words: List[Word], counter: Value) -> List[Word]:
         """The value of a whole chunk."""
@@ -186,25 +192,15 @@ class Unknown:
         key, values = its.of_vectors(8, 1), its.lanes(8, lanes)
         return side_by_side(self.compress(key, [*values[2 * j], *values[2 * j + 1]], 0, 64, KEYED_HASH + PARENT) for j in range(4))
 
-    def take_block(self, lanes: int, its: Arguments) -> List[Word]:
-        h, chunks, places, n = its.lanes(8, lanes), number(its.value()), its.words(2 * lanes), number(its.value())
-        counters, lengths, flags = its.words(2 * lanes), its.words(lanes), its.words(lanes)
-        at = [chunks + 1024 * number(pair(*places[2 * j:2 * j + 2])) + 64 * n for j in range(lanes)]
-        return side_by_side(
-            self.compress(h[j], self.m.memory.load(at[j], 16), pair(counters[j], counters[lanes + j]), lengths[j], flags[j])
-            for j in range(lanes))
+    def chunk_values(self, lanes: int, its: Arguments) -> List[Word]:
+        its.value()
+        key, chunks, words, first = its.words(8), number(its.value()), its.words(2 * lanes), its.value()
+        places = [number(pair(*words[2 * j:2 * j + 2])) for j in range(lanes)]
+        return side_by_side(self.chunk(key, self.m.memory.load(chunks + 1024 * place, 256), add_64(first, place)) for place in places)
 
     def take_in_each(self, lanes: int, its: Arguments) -> List[Word]:
         h, blocks, lengths, flags = its.lanes(8, lanes), its.lanes(16, lanes), its.words(lanes), its.words(lanes)
         return side_by_side(self.compress(h[j], blocks[j], 0, lengths[j], flags[j]) for j in range(lanes))
-
-
-class Defined(Unknown):
-    """The same functions as the definition has them. At x86-64-v3 LLVM has moved one compression into its caller, whose result would be
-    another than an unknown function's."""
-
-    def compress(self, h: Sequence[Word], m: Sequence[Word], counter: Value, length: Word, flags: Word) -> List[Word]:
-        return list(compress(h, m, counter, length, flags))
 
 
 # ---- The checks
@@ -215,21 +211,12 @@ def words_of(length: int) -> List[Word]:
     return [symbol(f"message {i}") for i in range((length + 3) // 4)]
 
 
-def by_either(check: Callable[[Type[Unknown]], Machine]) -> Machine:
-    """A check in which unknown functions compress blocks, or else those of the definition."""
-    try:
-        return check(Unknown)
-    except Fault:
-        return check(Defined)
-
-
-def check_length(library: Library, length: int, functions: Type[Unknown]) -> Machine:
-    """`data_hash` of a message of a length, whose blocks are compressed by other functions."""
+def check_length(library: Library, length: int) -> Machine:
+    """`data_hash` of a message of a length, whose blocks are compressed by unknown functions."""
     forget()
     words, caller = words_of(length), Caller(library)
     m = caller.m
-    # The definition comes first, so that words.py has its words in the same order.
-    wanted = Message(functions(library, m).compress, words_at(8, list(DATA_KEY)), words, length, {}).hash()
+    wanted = Message(Unknown(library, m).compress, words_at(8, list(DATA_KEY)), words, length, {}).hash()
     m.memory.put_words(MESSAGE, words)
     m.memory.add_region(MESSAGE, length, False)
     m.memory.add_region(RESULT, 32, True)
@@ -239,13 +226,13 @@ def check_length(library: Library, length: int, functions: Type[Unknown]) -> Mac
     return m
 
 
-def check_after(library: Library, chunks: int, lengths: Sequence[int], functions: Optional[Type[Unknown]]) -> Machine:
-    """A hasher that has taken so many chunks, of any values, and then gets pieces. Blocks are compressed by other functions, or else by
-    those of the library, which are the definition's."""
+def check_after(library: Library, chunks: int, lengths: Sequence[int], is_known: bool) -> Machine:
+    """A hasher that has taken so many chunks, of any values, and then gets pieces. Blocks are compressed by unknown functions, or by those
+    of the library, which are the definition's."""
     forget()
     words, key, before, caller = words_of(sum(lengths)), bytes_of("key", 32), subtrees_before(chunks), Caller(library)
     m = caller.m
-    compression: Compress = functions(library, m).compress if functions else compress
+    compression: Compress = compress if is_known else Unknown(library, m).compress
     wanted = Message(compression, words_at(8, key), words, sum(lengths), before).hash()
     hasher = Hasher(caller, "keyed", key)
     m.memory.put_words(SUBTREES, [word for subtree in before.values() for word in subtree])
@@ -282,7 +269,6 @@ def run_all(library: Library) -> Iterator[Machine]:
     draws = random.Random(5)
     yield check_hash_of(library, "data_hash", [draws.getrandbits(8) for _ in range(LARGEST)])
     for length in LENGTHS:
-        yield by_either(partial(check_length, library, length))
+        yield check_length(library, length)
     for chunks, lengths, is_known in after(library.level.lanes):
-        after_these = partial(check_after, library, chunks, lengths)
-        yield after_these(None) if is_known else by_either(after_these)
+        yield check_after(library, chunks, lengths, is_known)

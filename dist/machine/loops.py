@@ -42,24 +42,30 @@ def reached(graph: Dict[int, List[int]], start: int, without: int) -> Set[int]:
 
 
 def head_of_loop(image: Image, function: str, kind: "type[Machine]", callees: List[int]) -> int:
-    """Where the innermost loop of a function begins that calls one of some functions: the place through which each way into it goes."""
+    """Where the innermost loop of a function begins that calls one of some functions."""
+    found = loops(image, function, kind)
+    calls = [head for head, body in found.items() if any(_calls(image.instructions[at], callees) for at in body)]
+    if not calls:
+        raise Fault(f"no loop of {function} calls what it should")
+    return min(calls, key=lambda head: len(found[head]))
+
+
+def loops(image: Image, function: str, kind: "type[Machine]") -> Dict[int, Set[int]]:
+    """The loops of a function: where each begins, the place through which each way into it goes, and the places of its instructions."""
     graph = successors(image, function, kind)
     start = image.function(function)
     before: Dict[int, List[int]] = {at: [] for at in graph}
     for at, goes_on in graph.items():
         for to in goes_on:
             before[to].append(at)
-    loops: Dict[int, Set[int]] = {}
+    found: Dict[int, Set[int]] = {}
     alive = reached(graph, start, -1)
     for head, ends in before.items():
         if len(ends) > 1 and head != start:
             others = reached(graph, start, head)
             for end in (set(ends) & alive) - others:
-                loops.setdefault(head, {head}).update(reached(before, end, head))
-    calls = [head for head, body in loops.items() if any(_calls(image.instructions[at], callees) for at in body)]
-    if not calls:
-        raise Fault(f"no loop of {function} calls what it should")
-    return min(calls, key=lambda head: len(loops[head]))
+                found.setdefault(head, {head}).update(reached(before, end, head))
+    return found
 
 
 def _calls(it: Instruction, callees: List[int]) -> bool:

@@ -21,8 +21,8 @@ from words import Value, Word, forget
 
 #: Where groups are, what says so, and room for a text; how many bytes it has; how many nodes a group has at most, and how many groups
 #: have their parents made at once.
-GROUPS, LIST, ROOM = [0x26000008 + 0x100010 * k for k in range(16)], 0x29000008, 0x2A000003
-ROOM_SIZE, MOST_NODES, MOST_GROUPS = 792, 9, 16
+GROUPS, LIST, ROOM = [0x26000008 + 0x10010 * k for k in range(64)], 0x29000008, 0x2A000003
+ROOM_SIZE, MOST_NODES, MOST_GROUPS = 792, 9, 64
 #: Sizes of nodes: at both ends, and where the number of digits changes.
 SIZES = [0, 1, *(10 ** k + more for k in range(1, 20) for more in (-1, 0, 1)), (1 << 64) - 1]
 
@@ -69,8 +69,8 @@ def pairs(is_short: bool) -> List[Tuple[int, int]]:
 
 
 def lengths(is_short: bool) -> List[List[int]]:
-    """Lengths of texts, for each number of texts; in the whole list each length is there."""
-    few = [[(67 * k + 61 * count) % (ROOM_SIZE + 1) for k in range(count)] for count in range(1, MOST_GROUPS + 1)]
+    """Lengths of texts, for many numbers of texts; in the whole list each length is there."""
+    few = [[(67 * k + 61 * count) % (ROOM_SIZE + 1) for k in range(count)] for count in (*range(1, 18), 32, 33, MOST_GROUPS)]
     if is_short:
         return [few[0], few[1], few[4], few[8], [0, 64, 65, 128, 791, ROOM_SIZE, *few[9]]]
     return few + [[min(at + k, ROOM_SIZE) for k in range(MOST_GROUPS)] for at in range(0, ROOM_SIZE + 1, MOST_GROUPS)]
@@ -105,11 +105,10 @@ def check_texts(library: Library, each: Sequence[int], run: Callable[[Caller, Se
     m = caller.m
 
     def write() -> Value:
-        """Writes the next text so that it ends at the end of the room that is given, and returns where it starts."""
+        """Writes the next text at the start of the room that is given, and returns how long it is."""
         text = next(given)
-        start = ROOM_SIZE - len(text)
-        m.memory.store_bytes(m.number(m.ARGUMENTS[0]) + start, text)
-        return start
+        m.memory.store_bytes(m.number(m.ARGUMENTS[0]), text)
+        return len(text)
 
     m.stand_ins[library.image.function(of_groups("write_text"))] = write
     found = run(caller, [(place, MOST_NODES) for place in GROUPS[:len(each)]])
@@ -137,10 +136,10 @@ def check_text(library: Library, group: Sequence[Node]) -> Machine:
     m.memory.add_bytes(ROOM, [0] * ROOM_SIZE)
     m.memory.remove_region(ROOM)
     m.memory.add_region(ROOM, ROOM_SIZE, True)
-    start = number(caller.run(of_groups("write_text"), [ROOM, m.memory.add_words(GROUPS[0], words_of(group)), len(group)]))
-    if start != ROOM_SIZE - len(text):
-        raise Fault(f"the text of {len(group)} nodes starts elsewhere")
-    if m.memory.load_bytes(ROOM + start, len(text)) != list(text):
+    size = number(caller.run(of_groups("write_text"), [ROOM, m.memory.add_words(GROUPS[0], words_of(group)), len(group)]))
+    if size != len(text):
+        raise Fault(f"the text of {len(group)} nodes ends elsewhere")
+    if m.memory.load_bytes(ROOM, len(text)) != list(text):
         raise Fault(f"the text of {len(group)} nodes is another one")
     return m
 
@@ -153,7 +152,7 @@ def run_all(library: Library, is_short: bool) -> Iterator[Machine]:
     for each in lengths(is_short):
         yield check_texts(library, each, run_parent_hashes)
     all_lanes = partial(check_texts, library, lengths(True)[-1], run_parent_hashes)
-    yield must_take(library, {library.level.lanes}, all_lanes, f"{MOST_GROUPS} texts")
+    yield must_take(library, "chunks::take_block", {library.level.lanes}, all_lanes, f"{MOST_GROUPS} texts")
     for group in of_numbers:
         yield check_text(library, group)
     for at in range(0, len(of_numbers), MOST_GROUPS):

@@ -11,24 +11,22 @@ from fractions import Fraction
 from typing import Callable, Dict, Iterator, List, NamedTuple, Optional, Sequence, Tuple, Union
 
 import bits
-from bits import Class, Some
+from bits import Beyond, Class, Some
 from calls import STACK
-from contracts import (
-    BLOCK, COUNT, HASHER, HASHER_SIZE, MESSAGE, OPEN, WAITING, Check, Course, Theory, must_be, stand_in_for_add,
-)
-from definition import CHUNK_END, CHUNK_START, KEYED_HASH
+from course import BLOCK, COUNT, HASHER, HASHER_SIZE, MESSAGE, Check, Course, Theory, add_hasher, must_be
 from fault import Fault, number, some
-from hashers import below, blocks_before_last, ends_with_chunk, waiting
 from layout import inner
 from long_messages import Arguments
 from loops import head_of_loop
 from machine import RETURN, Forgotten, unknown_value
+from source import ABSORB, CLOSE, Source, below, stand_in_for_add
 from widths import WIDTHS, of_width
-from words import Node, Value, Word, high, low, pair, symbol
+from words import Node, Value, high, low, pair, symbol
 
-UPDATE, ABSORB = "hasher::Hasher::update", "tree::Tree::absorb_subtrees"
-#: How many bits a count of bytes has, a number of blocks, and a length of a piece: with its piece, a message has fewer than 2^64 bytes.
-BYTES, BLOCKS, LENGTH = 63, 57, 63
+UPDATE, SUBTREES = "hasher::Hasher::update", "tree::Tree::absorb_subtrees"
+#: How many bits a count of bytes has, a number of blocks, and a length of a piece. A message has fewer than 2^64 bytes, but nothing is left
+#: out for that: both sides count modulo 2^64.
+BYTES, BLOCKS, LENGTH = 64, 58, 63
 #: A call of absorb_subtrees: the number of the first chunk, the chunks of a subtree, how many subtrees, the place and the size of their
 #: bytes, and whether the message ends with them.
 Absorbed = Tuple[int, Some, Some, Some, Some, Some, int]
@@ -134,81 +132,6 @@ def kept_at(samples: Sequence[Sample], place: Place) -> Optional[Kept]:
     return first if first is not None and all(it == first for it in its) else None  # type: ignore[return-value]
 
 
-# ---- What the source does
-
-
-class Source:
-    """What update promises to do, on memory of its own, with the calls that it has to make."""
-
-    def __init__(self, course: Course, theory: Theory, count: Some) -> None:
-        self.course, self.theory, self.memory = course, theory, course.memory()
-        self.memory.add_region(HASHER, HASHER_SIZE, True)
-        self.added: List[Tuple[Some, List[Word], int]] = []
-        self.set_count(count)
-
-    def set_count(self, count: Some) -> None:
-        self.memory.put_words(HASHER + COUNT, [low(count), high(count)])
-
-    def key(self) -> List[Word]:
-        return self.memory.words_at(HASHER, 8)
-
-    def open(self) -> List[Word]:
-        return self.memory.words_at(HASHER + OPEN, 8)
-
-    def join_halves(self) -> None:
-        value = self.theory.parent_value(self.key(), waiting(0), waiting(1))
-        self.memory.put_words(HASHER + WAITING, list(value))
-
-    def open_again(self, count: Some) -> Some:
-        """Makes a hasher that has so many bytes ready for more: two values of which the root was to be made are joined. Returns how many
-        blocks were taken in."""
-        if not ends_with_chunk(count):
-            return blocks_before_last(count)
-        if bits.equal(bits.count_ones(bits.shift_right(count, 10)), 1):
-            self.join_halves()
-        return bits.shift_right(count, 6)
-
-    def absorb(self, blocks: Some, words: Sequence[Word]) -> None:
-        """Takes in block number `blocks`, which isn't the last one."""
-        chunk, place = bits.shift_right(blocks, 4), bits.low_bits(blocks, 4)
-        if bits.equal(place, 15):
-            self.added.append((chunk, list(self.theory.compress(self.open(), words, chunk, 64, KEYED_HASH + CHUNK_END)), 0))
-            self.memory.put_words(HASHER + OPEN, self.key())
-        else:
-            flags = KEYED_HASH + (CHUNK_START if bits.is_zero(place) else 0)
-            self.memory.put_words(HASHER + OPEN, list(self.theory.compress(self.open(), words, chunk, 64, flags)))
-
-    def keep(self, at: Some, place: Some, count: Some) -> None:
-        """Keeps bytes of the piece in the block, from place `at` on."""
-        self.memory.copy(bits.add(HASHER + BLOCK, at), place, count)
-
-    def close(self, count: Some) -> None:
-        """Takes in the last block, too, where a message of so many bytes ends with a chunk."""
-        if ends_with_chunk(count):
-            chunk = bits.subtract(bits.shift_right(count, 10), 1)
-            block = self.memory.words_at(HASHER + BLOCK, 16)
-            self.added.append((chunk, list(self.theory.compress(self.open(), block, chunk, 64, KEYED_HASH + CHUNK_END)), 1))
-            self.memory.put_words(HASHER + OPEN, self.key())
-
-    def finish(self, place: Some, rest: Some, count: Some) -> None:
-        """Keeps what is left of the piece, at most a block."""
-        if bits.less(64, rest):
-            raise Fault(f"it ends with {rest!r} bytes left")
-        if not bits.is_zero(rest):
-            self.keep(0, place, rest)
-            self.close(count)
-
-    def must_be(self, added: Sequence[Tuple[Some, List[Word], int]]) -> None:
-        """Refuses another hasher than the source's, and other calls of add_subtree_value."""
-        must_be(added, self.added, "the values that are added")
-        if self.course.changes:
-            self.memory.put_words(HASHER + WAITING, self.course.waiting_words())
-        for place in range(HASHER, HASHER + HASHER_SIZE, 4):
-            its = [memory.words.get(place) for memory in (self.course.m.memory, self.memory)]
-            if its[0] is not its[1] and len({*(memory.words_at(place, 1)[0] for memory in (self.course.m.memory, self.memory))}) > 1:
-                raise Fault(f"another hasher from byte {place - HASHER} on")
-
-
 # ---- The checks
 
 
@@ -217,10 +140,8 @@ class Update:
 
     def __init__(self, course: Course) -> None:
         self.course, library = course, course.library
-        self.start = library.image.function(inner(UPDATE))
-        callees = [library.image.function(inner(of_width(ABSORB, lanes))) for lanes in WIDTHS if library.has(inner(of_width(ABSORB, lanes)))]
+        callees = [library.image.function(inner(of_width(SUBTREES, lanes))) for lanes in WIDTHS if course.has(of_width(SUBTREES, lanes))]
         self.head = head_of_loop(library.image, inner(UPDATE), library.kind, callees)
-        self.added: List[Tuple[Some, List[Word], int]] = []
         self.absorbed: List[Absorbed] = []
         samples = [sample for given in ((0, 200, 0), (330, 500, 64), (3072, 5000, 4096), (7777, 70000, 128), (64, 9000, 192)) for sample in
                    self.samples(*given)]
@@ -230,13 +151,26 @@ class Update:
 
     def begin(self, its: Class, count: Some) -> Theory:
         theory = self.course.begin(its)
-        self.added, self.absorbed = [], []
-        self.course.add_hasher()
+        self.absorbed = []
+        add_hasher(self.course.m.memory)
         self.course.m.memory.put_words(HASHER + COUNT, [low(count), high(count)])
-        stand_in_for_add(self.course, self.added)
+        stand_in_for_add(self.course)
+        self.course.stand_in(ABSORB, self.absorb)
+        self.course.stand_in(CLOSE, self.close)
         for lanes in WIDTHS:
-            self.course.stand_in(of_width(ABSORB, lanes), self.absorbing(lanes))
+            self.course.stand_in(of_width(SUBTREES, lanes), self.absorbing(lanes))
         return theory
+
+    def absorb(self, its: Arguments) -> None:
+        """Stands in for absorb."""
+        must_be([some(its.value())], [HASHER], "the hasher that takes in a block")
+        self.course.calls.make(ABSORB, some(its.value()), its.words(16), opens=True)
+
+    def close(self, its: Arguments) -> None:
+        """Stands in for close."""
+        must_be([some(its.value())], [HASHER], "the hasher that is closed")
+        words = self.course.words
+        self.course.calls.make(CLOSE, words(HASHER + BLOCK, 16), words(HASHER + COUNT, 2), opens=True)
 
     def absorbing(self, lanes: int) -> Callable[[Arguments], None]:
         """Stands in for absorb_subtrees of a width: writes down what it is called with."""
@@ -248,24 +182,13 @@ class Update:
             if hasher != HASHER:
                 raise Fault("another hasher takes in chunks")
             self.absorbed.append((lanes, first, size, rest[0], rest[1], rest[2], number(its.value())))
-            self.course.change_waiting()
+            self.course.calls.make(*self.absorbed[-1])
 
         return run
 
     def enter(self, piece: int, length: Some) -> int:
         """Runs from the start to the head or to the end. Returns where it has stopped."""
-        m = self.course.m
-        m.general = [(symbol(f"register {i} low"), symbol(f"register {i} high")) for i in range(len(m.general))]
-        width = m.SIZES[2]
-        words = self.course.kept_words("vectors", lambda: [symbol(f"vector {i} {k}") for i in range(m.SIZES[1]) for k in range(width)])
-        m.vectors = [words[i:i + width] for i in range(0, len(words), width)]
-        m.flags = None
-        m.general[m.STACK] = STACK
-        m.memory.add_stack(STACK - 65536, 65536)
-        m.give([HASHER, piece, length], ())
-        m.frames = [(RETURN, m.kept())]
-        m.begin_call()
-        return m.run(self.start, (self.head, RETURN))
+        return self.course.enter(UPDATE, [HASHER, piece, length], [self.head])
 
     def samples(self, count: int, length: int, more: int) -> List[Sample]:
         """What is at the head in a run for known numbers, each time that it comes there."""
@@ -279,7 +202,7 @@ class Update:
         blocks += count > 64 * blocks
         while at == self.head:
             found.append(Sample(State(blocks, taken, length, piece), values_at_head(self.course)))
-            self.absorbed = []
+            self.absorbed.clear()
             at = m.run(self.head, (self.head, RETURN))
             more_blocks = number(self.absorbed[0][5]) // 64 if self.absorbed else 1
             blocks, taken = blocks + more_blocks, taken + 64 * more_blocks
@@ -310,6 +233,7 @@ class Update:
         m = self.course.m
         stack = m.number(m.STACK)
         m.flags = None
+        m.memory.forget_stack(stack)
         for i in range(len(m.general)):
             m.general[i] = self.value_of("register", i, state) or unknown_value()
             if ("register", i) in self.kept:
@@ -341,10 +265,11 @@ class Update:
         theory = self.begin(its, count)
         self.course.m.memory.add_region(MESSAGE, length, False)
         stopped = self.enter(MESSAGE, length)
-        source = Source(self.course, theory, count)
+        source = Source(self.course, theory)
+        source.set_count(count)
         source.memory.add_region(MESSAGE, length, False)
         if bits.is_zero(length):
-            source.must_be(self.added)
+            source.must_be_done()
             return
         blocks = source.open_again(count)
         held = bits.subtract(count, bits.shift_left(blocks, 6))
@@ -366,15 +291,14 @@ class Update:
                 source.finish(bits.add(MESSAGE, taken), rest, whole)
             else:
                 self.must_arrive(State(blocks, taken, length, MESSAGE))
-        must_be(self.absorbed, [], "the chunks that are taken in")
-        source.must_be(self.added)
+        source.must_be_done()
 
     def run_round(self, its: Class) -> None:
         """A round, and what follows the last one: for every number of blocks, and every length of the rest."""
         bits.begin(its)
         blocks, rest, taken = bits.variable(0, BLOCKS), bits.variable(BLOCKS, LENGTH), bits.variable(BLOCKS + LENGTH, LENGTH)
-        if bits.less(rest, max(self.least, 1)):
-            return
+        if bits.less(rest, self.least):
+            raise Beyond
         whole = bits.add(rest, blocks, 64)
         theory = self.begin(its, 0)
         m = self.course.m
@@ -386,20 +310,20 @@ class Update:
         m.memory.remove_region(MESSAGE)
         m.memory.add_region(MESSAGE, rest, False)
         m.memory.put_words(HASHER + COUNT, [low(whole), high(whole)])
-        self.added.clear()
         self.absorbed.clear()
-        self.course.changes = 0
+        self.course.calls.made.clear()
         state = State(blocks, taken, bits.add(taken, rest), bits.subtract(MESSAGE, taken))
         self.set_state(state)
         stopped = m.run(self.head, (self.head, RETURN))
-        source = Source(self.course, theory, whole)
+        source = Source(self.course, theory)
+        source.set_count(whole)
         source.memory.add_region(MESSAGE, rest, False)
         size = self.taken_by_round(source, blocks, rest)
         left = bits.subtract(rest, size)
         after = State(bits.add(blocks, bits.shift_right(size, 6)), bits.add(taken, size), state.length, state.piece)
         if stopped == RETURN:
             source.finish(bits.add(MESSAGE, size), left, whole)
-        source.must_be(self.added)
+        source.must_be_done()
         if stopped == self.head:
             if size == 0:
                 raise Fault("a round takes in nothing")
@@ -416,6 +340,7 @@ class Update:
             return 64
         if len(self.absorbed) > 1:
             raise Fault("two calls of absorb_subtrees in a round")
+        source.calls.make(*self.absorbed[0])
         lanes, first, each, count, place, size, kept = self.absorbed[0]
         length = number(each)
         if not bits.is_zero(bits.low_bits(blocks, 4)) or not bits.equal(first, bits.shift_right(blocks, 4)):
@@ -437,4 +362,5 @@ def checks(course: Course) -> Iterator[Check]:
     yield Check("update, up to its loop", BYTES + LENGTH, its.run_start, [
         (*below(0, BYTES, count), *below(BYTES, LENGTH, length)) for count, length in ((3, 3), (40, 33), (10, 3))])
     yield Check("update, a round", BLOCKS + 2 * LENGTH, its.run_round, [
-        (*below(0, BLOCKS, blocks), *below(BLOCKS, LENGTH, rest)) for blocks, rest in ((3, 11), (6, 13), (38, 17), (12, 35))])
+        (*below(0, BLOCKS, blocks), *below(BLOCKS, LENGTH, rest)) for blocks, rest in ((3, 11), (6, 13), (38, 17), (12, 35))],
+        its.least << BLOCKS + LENGTH, f"fewer than {its.least} bytes left")

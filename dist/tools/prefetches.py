@@ -12,11 +12,13 @@ import re
 from proving import Fault
 from widths import WIDTHS, of_width
 
+#: The functions that take in a block of each lane, or each block of whole chunks.
+TAKING_BLOCKS = "keyed_blake3::chunks::take_block", "keyed_blake3::chunks::chunk_values"
 #: How far ahead of a load, in bytes: two blocks. One, three and four were slower over chunks of 8 to 128 KiB that weren't in a cache.
 DISTANCE = 128
 BLOCK = 64
-#: A load of a vector, from where a lane begins and where its block is.
-LOAD = re.compile(r"(?m)^\tv?mov\w+\t(-?\d*)\((%\w+,%\w+)\), %[xyz]mm\d+\n")
+#: A load of a vector or of half of one, from where a lane begins and where its block is.
+LOAD = re.compile(r"(?m)^\t(?:v?mov\w+\t|vinserti64x4\t\$1, )(-?\d*)\((%\w+,%\w+)\), (?:%zmm\d+, )?%[xyz]mm\d+\n")
 #: A line that is a prefetch.
 PREFETCH = re.compile(r"(?m)^\tprefetcht0\t.*\n")
 
@@ -24,15 +26,21 @@ PREFETCH = re.compile(r"(?m)^\tprefetcht0\t.*\n")
 def with_prefetches(text: str) -> str:
     """Assembly for x86-64 in which each function that takes in a block of each lane has a prefetch for each."""
     for lanes in WIDTHS:
-        name = of_width("keyed_blake3::chunks::take_block", lanes)
-        before, label, rest = text.partition(f'\n"{name}":\n')
-        if label:
-            body, end, after = rest.partition("\n\t.section\t")
-            body, count = LOAD.subn(_followed, body)
-            if count_of(body) != lanes:
-                raise Fault(f"{name} has {count_of(body)} prefetches in {count} loads: it should have {lanes}")
-            text = before + label + body + end + after
+        for function in TAKING_BLOCKS:
+            text = _with_those_of(of_width(function, lanes), lanes, text)
     return text
+
+
+def _with_those_of(name: str, lanes: int, text: str) -> str:
+    """Assembly in which a function has its prefetches, if it is there."""
+    before, label, rest = text.partition(f'\n"{name}":\n')
+    if not label:
+        return text
+    body, end, after = rest.partition("\n\t.section\t")
+    body, count = LOAD.subn(_followed, body)
+    if count_of(body) != lanes:
+        raise Fault(f"{name} has {count_of(body)} prefetches in {count} loads: it should have {lanes}")
+    return before + label + body + end + after
 
 
 def count_of(text: str) -> int:

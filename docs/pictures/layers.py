@@ -59,7 +59,7 @@ def stack() -> tuple[tuple[str, tuple[Layer, ...]], ...]:
         )),
         ("machine code", (
             Layer("assembly for Linux in `dist/`", ("Linux",), 0.8),
-            Layer("machine code that compresses", ("hashing of blocks",), 1.05),
+            Layer("machine code that hashes", ("hashing of messages",), 1.05),
             Layer("the assembly for x86-64-v4", ("AVX-512",), 1.2),
             Layer("the assembly for Windows", ("Windows",), 1.2),
         )),

@@ -101,6 +101,42 @@ def chunks_at(nodes: Sequence[m.Node], start: int, stop: int) -> Optional[tuple[
 
 
 # --------------------------------------------------------------------------
+# Two files
+# --------------------------------------------------------------------------
+
+class Difference(NamedTuple):
+    """A file has its chunks from `first` up to `end` where the other has its own up to `other_end`; the same places in bytes."""
+    first: int
+    end: int
+    other_end: int
+    start: int
+    stop: int
+    other_stop: int
+
+
+def common_prefix(nodes: Sequence[m.Node], others: Sequence[m.Node]) -> int:
+    """How many chunks two files have in common at the front."""
+    counts = range(min(len(nodes), len(others)) + 1)
+    return max(count for count in counts if nodes[:count] == others[:count])
+
+
+def common_suffix(nodes: Sequence[m.Node], others: Sequence[m.Node], most: int) -> int:
+    """How many chunks two files have in common at the end, but at most `most`."""
+    counts = range(min(len(nodes), len(others), most) + 1)
+    return max(count for count in counts if nodes[len(nodes) - count:] == others[len(others) - count:])
+
+
+def difference(nodes: Sequence[m.Node], others: Sequence[m.Node]) -> Optional[Difference]:
+    """All but what two files have in common at the front, and what the rest has in common at the end; None if they are the same."""
+    if nodes == others:
+        return None
+    first = common_prefix(nodes, others)
+    after = common_suffix(nodes, others, min(len(nodes), len(others)) - first)
+    end, other_end = len(nodes) - after, len(others) - after
+    return Difference(first, end, other_end, m.total_size(nodes[:first]), m.total_size(nodes[:end]), m.total_size(others[:other_end]))
+
+
+# --------------------------------------------------------------------------
 # What a proof shows, whoever made it; reading it has checked the rules 5 to 8
 # --------------------------------------------------------------------------
 

@@ -221,6 +221,32 @@ class ChunksAndBytes(unittest.TestCase):
         self.assertEqual(r.bytes_of(nodes, 1, 2), (m.MAX_U64 - 1, m.MAX_U64))
 
 
+class TwoFiles(unittest.TestCase):
+    A, B, C, D = [(seeded(i), 10 ** i) for i in range(4)]
+
+    def test_in_common(self):
+        a, b = self.A, self.B
+        for nodes, others, front, end in (
+                ([], [], 0, 0), ([a], [], 0, 0), ([a], [b], 0, 0), ([a], [a], 1, 1), ([a, b], [a, a], 1, 0), ([a, b], [b, b], 0, 1),
+                ([a, b, a], [a], 1, 1), ([a, a, a], [a, a], 2, 2), ([a, b], [b, a], 0, 0), ([a, b, a, b], [a, b], 2, 2),
+                ([a], [(a[0], 2)], 0, 0), ([a, b], [(a[0], 2), b], 0, 1)):
+            for one, other in ((nodes, others), (others, nodes)):
+                self.assertEqual(r.common_prefix(one, other), front, (one, other))
+                for most in (0, 1, 2, 3, m.MAX_U64):
+                    self.assertEqual(r.common_suffix(one, other, most), min(end, most), (one, other))
+
+    def test_difference(self):
+        a, b, c, d = self.A, self.B, self.C, self.D
+        for nodes, others, chunks, places in (
+                ([a, b, c], [a, d, c], (1, 2, 2), (1, 11, 1001)), ([a, b, c], [a, c], (1, 2, 1), (1, 11, 1)),
+                ([a, c], [a, b, c], (1, 1, 2), (1, 1, 11)), ([a, b], [a, b, c], (2, 2, 3), (11, 11, 111)),
+                ([b, c], [a, b, c], (0, 0, 1), (0, 0, 1)), ([a, b], [], (0, 2, 0), (0, 11, 0)),
+                ([a, a, a], [a], (1, 3, 1), (1, 3, 1)), ([a, b, a, b, a], [a, b, a], (3, 5, 3), (12, 23, 12)),
+                ([a, b, c], [c, b, a], (0, 3, 3), (0, 111, 111)), ([a], [(a[0], 2)], (0, 1, 1), (0, 1, 2))):
+            self.assertEqual(r.difference(nodes, others), (*chunks, *places), (nodes, others))
+            self.assertIsNone(r.difference(nodes, nodes))
+
+
 class Json(unittest.TestCase):
     def rule(self, value):
         with self.assertRaises(m.InvalidJson) as refused:

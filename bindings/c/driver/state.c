@@ -111,21 +111,23 @@ static void tell_reader(yurewha_hasher *message, yurewha_reader *reader)
     }
 }
 
-/* What tells most of an index: how many hashes it has, and the numbers of those of the first seeds. */
 static void tell_hash_index(yurewha_hasher *message, yurewha_hash_index *index)
 {
-    enum { SEEDS = 64 };
-    yurewha_hash hashes[SEEDS];
-    uint8_t found[SEEDS];
-    uint64_t numbers[SEEDS];
     size_t count = 0;
-    for (uint64_t seed = 0; seed < SEEDS; seed++)
-        yurewha_random_from_seed(seed, &hashes[seed]);
     need(yurewha_hash_index_len(index, &count), "len");
-    need(yurewha_hash_index_find(index, hashes, SEEDS, found, SEEDS, numbers, SEEDS), "find");
-    add(message, &count, sizeof count);
-    add(message, found, sizeof found);
-    add(message, numbers, sizeof numbers);
+    yurewha_hash *hashes = (yurewha_hash *)block(count * sizeof *hashes);
+    uint64_t *numbers = (uint64_t *)block(count * sizeof *numbers);
+    uint8_t *found = (uint8_t *)block(count);
+    need(yurewha_hash_index_entries(index, hashes, count, numbers, count), "entries");
+    if (count != 0)
+        qsort(hashes, count, sizeof *hashes, by_order);
+    need(yurewha_hash_index_find(index, hashes, count, found, count, numbers, count), "find");
+    add(message, hashes, count * sizeof *hashes);
+    add(message, found, count);
+    add(message, numbers, count * sizeof *numbers);
+    free(hashes);
+    free(numbers);
+    free(found);
 }
 
 void tell(yurewha_hasher *message, enum type type, void *object)

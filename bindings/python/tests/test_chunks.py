@@ -143,7 +143,7 @@ def test_other_fields_are_refused_by_name(fields):
 
 
 def test_the_table_of_a_notebook():
-    for count, shown in ((0, []), (1, [0]), (10, range(10)), (11, [*range(5), None, *range(6, 11)]),
+    for count, shown in ((0, []), (1, [0]), (7, range(7)), (10, range(10)), (11, [*range(5), None, *range(6, 11)]),
                          (50, [*range(5), None, *range(45, 50)])):
         table = ElementTree.fromstring(y.Chunks(PAIRS[:count])._repr_html_())
         size = sum(size for _, size in PAIRS[:count])

@@ -540,6 +540,13 @@ RULE_AS_FACT = re.compile(
     r"(?:an? |the )?(?:whole|str|bool|Hash|pair|Subtree|callable|list|array|object)")
 
 
+def test_an_array_is_told_by_its_type():
+    """Though it isn't compared as a number is."""
+    numpy = pytest.importorskip("numpy")
+    with pytest.raises(TypeError, match="^key must be a Hash, got ndarray$"):
+        Z.hmac(numpy.zeros(2))
+
+
 def test_no_error_states_a_rule_as_a_fact():
     """A text like "a size is a whole number, not float" would be the text of no value but the right one."""
     for path in sorted(Path(y.__file__).parent.glob("*.py")):

@@ -325,6 +325,14 @@ def test_a_system_that_reads_less_than_it_is_asked_to(written, monkeypatch, most
             assert y.hash_chunks(written(data), offsets, threads=threads) == y.data_hashes(data, offsets)
 
 
+def test_threads_where_the_system_reads_at_no_place(written, monkeypatch):
+    """As Windows doesn't: they read by turns."""
+    monkeypatch.delattr("os.pread", raising=False)
+    data = rng.randbytes(3 * MIB + 5)
+    for offsets in ([0, 7, len(data)], range(0, len(data), 1 << 17)):
+        assert y.hash_chunks(written(data), offsets, threads=4) == y.data_hashes(data, offsets)
+
+
 def test_a_file_that_becomes_shorter(written):
     path = written(bytes(5 * MIB))
 

@@ -43,6 +43,7 @@ def test_what_it_has():
     assert files.ls("", detail=False) == files.ls("yurewha://", detail=False) == files.ls("/", detail=False) == ["a.bin", "folder", "none"]
     assert files.ls("folder", detail=False) == files.ls("/folder/", detail=False) == ["folder/b.bin", "folder/in"]
     assert files.ls("a.bin", detail=False) == ["a.bin"] and files.find("") == sorted(FILES)
+    assert made({}).ls("") == []
     assert files.glob("folder/**.bin") == ["folder/b.bin", "folder/in/c.bin"]
     assert files.isdir("folder") and files.isdir("") and files.isfile("folder/in/c.bin") and not files.isfile("folder")
     assert files.exists("yurewha://a.bin") and not any(files.exists(path) for path in ("b.bin", "folder/b", "fold", "a.bin/"[:-2]))
@@ -137,6 +138,16 @@ def test_ranges_that_are_near_are_fetched_together():
     ranges = files.cat_ranges(["a"] * 6, starts, [start + 4096 for start in starts])
     assert ranges == [source.data[start:start + 4096] for start in starts]
     assert sorted(source.fetched) == [(0, 4 << 12), (499_712, 4096 * 125)]
+
+
+@pytest.mark.parametrize("gap, apart", [(None, 1 << 16), (0, 0), (5000, 5000)])
+def test_ranges_are_near_up_to_a_gap(gap, apart):
+    source = Source(random.Random(56).randbytes(1 << 17), range(0, (1 << 17) + 1, 1 << 12))
+    for more in (0, 1):
+        files = made({"a": source.tree.file_hash()}, lambda path, a, b: source.fetch(a, b), lambda path, a, b: source.prove(a, b), cache_size=0)
+        source.fetched.clear()
+        files.cat_ranges(["a", "a"], [0, 10 + apart + more], [10, 20 + apart + more], max_gap=gap)
+        assert len(source.fetched) == 1 + more
 
 
 def test_a_range_after_one_that_lies_within_another_is_fetched_with_them():

@@ -484,6 +484,12 @@ def test_errors_of_long_calls_are_the_same():
     with pytest.raises(y.InvalidText):
         y.Subtree.from_json(b" " * _interrupts.MANY_BYTES)
 
+    def losing():
+        raise _interrupts.ThreadLost("a thread of its own")
+
+    with pytest.raises(_interrupts.ThreadLost, match="^a thread of its own$"):
+        _interrupts.interruptible(losing, True)
+
 
 def test_handlers_and_threads_do_long_work_themselves(chunks):
     """A handler in the middle of another call on the object, and every thread but the main one."""

@@ -136,7 +136,7 @@ def test_single_items_are_picked_as_before():
     ([60], IndexError), ([0, -61], IndexError), ([2**63], IndexError),
     ([True] * 59, IndexError), ([True] * 61, IndexError), ([False], IndexError),
     ([0, None], TypeError), ([0.5], TypeError), (["0"], TypeError), ([True, 0], TypeError), ("0", TypeError), (b"\0", TypeError),
-    (bytearray(60), TypeError), (1.5, TypeError), (None, TypeError), (array.array("d", [1]), TypeError), ({0}.__class__, TypeError)])
+    (bytearray(60), TypeError), (1.5, TypeError), (None, TypeError), (array.array("d", [1]), TypeError), (array.array("d"), TypeError), ({0}.__class__, TypeError)])
 def test_wrong_picks(at, error):
     for block in (CHUNKS, CHUNKS.hashes):
         with pytest.raises(error):

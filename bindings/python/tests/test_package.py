@@ -255,13 +255,14 @@ def test_what_is_installed_by_a_link(tmp_path):
 @pytest.mark.skipif(not Path("/proc/self/maps").exists(), reason="it needs /proc")
 def test_what_is_installed_where_the_loader_finds_the_library(tmp_path):
     shutil.copytree(PACKAGE, tmp_path / "yurewha", ignore=shutil.ignore_patterns("lib", "__pycache__"))
-    folder = tmp_path / "loader"
+    folder = tmp_path / "gefüllt"  # in a locale that has no such letter
     folder.mkdir()
     shutil.copy(Path(_library.PATH).resolve(), folder / _library.NAME)
     names = {"PYTHONPATH": str(tmp_path), "LD_LIBRARY_PATH": str(folder)}
+    locale = {"LC_ALL": "C", "PYTHONCOERCECLOCALE": "0", "PYTHONUTF8": "0", "PYTHONIOENCODING": "utf-8"}
     told = subprocess.run(
-        [sys.executable, "-m", "yurewha"], env={**os.environ, **names, "YUREWHA_LIB_DIR": ""}, cwd="/", capture_output=True,
-        text=True, check=True).stdout
+        [sys.executable, "-m", "yurewha"], env={**os.environ, **names, **locale, "YUREWHA_LIB_DIR": ""}, cwd="/", capture_output=True,
+        encoding="utf-8", check=True).stdout
     assert f"library: {folder / _library.NAME}, version {NUMBER}\n" in told
 
 

@@ -34,6 +34,7 @@ def test_levels_nodes_marks_and_sizes():
     assert "15 nodes kept on 2 levels, for 24 bytes of chunks" in words
     assert "8 nodes, 8 bytes" in words and "4 nodes, 4 bytes" in words and "3 nodes, 12 bytes" in words
     assert "hashed away: 12 bytes" in words and words.count("open") == 2
+    assert not [word for word in words if word.startswith("+")], "all nodes are shown"
     titles = [node.find(SVG + "title").text for node in nodes]
     assert f"{numbered(0, 0)[0][0].hex()}: 1 byte" in titles
     cuts = [node for node in nodes if node.get("class") == "k"]

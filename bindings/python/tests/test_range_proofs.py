@@ -117,6 +117,7 @@ UNREAD = [
     ("the range has 7 bytes, and the data 0", 8, 8, b""),
     ("this isn't the data of the range", 8, 10, b"a chunk"),
     ("this isn't the data of the range", 8, 8, b"Another"),
+    *(("this isn't the data of the range", *places, b"a chunk") for places in ((7, 14), (7, 7), (14, 14))),
 ]
 
 

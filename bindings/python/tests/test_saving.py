@@ -215,9 +215,10 @@ def test_permissions_stay_and_folders_must_be_there(tmp_path):
     mask = os.umask(0)
     os.umask(mask)
     assert path.stat().st_mode & 0o777 == 0o666 & ~mask
-    os.chmod(path, 0o600)
-    y.HashIndex([Z]).save(path)
-    assert path.stat().st_mode & 0o777 == 0o600
+    for mode in (0o600, 0o7601):
+        os.chmod(path, mode)
+        y.HashIndex([Z]).save(path)
+        assert path.stat().st_mode & 0o7777 == mode
     with pytest.raises(FileNotFoundError):
         y.HashIndex().save(tmp_path / "none" / "saved")
     with pytest.raises(FileNotFoundError):

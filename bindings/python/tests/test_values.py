@@ -317,6 +317,7 @@ def test_a_copy_of_a_hasher_has_its_key_and_name(make, name):
     for other in (one, one.copy(), copy.copy(one), copy.deepcopy(one), one.copy().copy()):
         assert other.name == name and repr(other) == f"<yurewha.Hasher {name}, 1 byte>"
         assert other.hash() == make(b"a").hash() and other.count == 1
+        assert (other.block_size, other.digest_size) == (64, len(other.digest()))
 
 
 def by_hand(session):

@@ -8,7 +8,8 @@ import pytest
 y = pytest.importorskip("yurewha", reason="there is no libyurewha: run make -C bindings, or set YUREWHA_LIB_DIR")
 
 FOLDER = Path(__file__).resolve().parents[3] / "tests/vectors/scripts"
-NAMES = ("hashes", "texts", "roots", "subtrees", "merges", "subtree_json", "range_proofs", "sessions", "session_json", "upstream")
+NAMES = ("hashes", "texts", "roots", "subtrees", "merges", "subtree_json", "range_proofs", "sessions", "session_json", "hash_indexes",
+         "upstream")
 
 # ---- Calls: what each call of the library is here
 
@@ -19,6 +20,11 @@ def compare(one, other):
 
 def lines_of(nodes):
     return "".join(f"{hash_} : {size}\n" for hash_, size in nodes)
+
+
+def entries(index):
+    hashes = index.hashes()
+    return sorted(zip(map(str, hashes), index.numbers(hashes)))
 
 
 CALLS = {
@@ -95,6 +101,7 @@ CALLS = {
     "hash_tree_chunks_at": y.HashTree.chunks_at,
     "hash_tree_bytes_of": y.HashTree.bytes_of,
     "hash_tree_proof": y.HashTree.proof,
+    "hash_tree_diff": y.HashTree.diff,
     "range_proof_levels": lambda proof: proof.levels,
     "range_proof_nodes": lambda proof: lines_of(proof.to_flat()[1]),
     "range_proof_to_json": y.RangeProof.to_json,
@@ -109,9 +116,14 @@ CALLS = {
     "opened_range_bytes_of": lambda opened, chunk: (opened.begins(chunk), opened.ends(chunk)),
     "opened_range_check": y.OpenedRange.check,
     "opened_range_read": y.OpenedRange.read,
+    "hash_index_new": y.HashIndex,
+    "hash_index_insert": y.HashIndex.add_all,
+    "hash_index_find": y.HashIndex.numbers,
+    "hash_index_entries": entries,
+    "hash_index_len": y.HashIndex.__len__,
 }
 #: Calls of the library that the package doesn't have.
-ABSENT = {"session_next_gap", "range_proof_from_chunks", "range_proof_to_bytes", "range_proof_from_bytes"}
+ABSENT = {"session_next_gap", "hash_tree_common_prefix", "hash_tree_common_suffix", "range_proof_from_chunks"}
 ERRORS = {
     "ARGUMENTS": y.InvalidArguments,
     "SIZES": y.SizeOverflow,
@@ -186,7 +198,8 @@ KINDS = {
     "chunks": chunks_of,
     "levels": lambda it: [tuple(map(int, level)) for level in it],
 }
-STATES = {y.Subtree: y.Subtree.to_json, y.Session: y.Session.to_json, y.RangeProof: y.RangeProof.to_json, y.Hasher: y.Hasher.hexdigest}
+STATES = {y.Subtree: y.Subtree.to_json, y.Session: y.Session.to_json, y.RangeProof: y.RangeProof.to_json, y.Hasher: y.Hasher.hexdigest,
+          y.HashIndex: entries}
 
 
 def value_of(kind, it, objects):
@@ -270,3 +283,9 @@ def test_vectors(name):
 
 def test_each_script_is_run():
     assert {path.stem for path in FOLDER.glob("*.jsonl")} == {*NAMES}
+
+
+def test_each_call_that_the_package_has_is_made():
+    """A call of the table isn't left out, and scripts make it."""
+    called = {call for path in FOLDER.glob("*.jsonl") for call in json.loads(path.open(encoding="utf-8").readline())["calls"]}
+    assert not ABSENT & CALLS.keys() and called == ABSENT | CALLS.keys()

@@ -3,15 +3,15 @@
 use serde_json::{json, Value};
 use std::any::Any;
 use std::cell::RefCell;
-use std::collections::HashMap;
+use std::collections::{BTreeSet, HashMap};
 use std::fs;
 use std::ops::Range;
-use std::path::Path;
+use std::path::{Path, PathBuf};
 use yurewha::error::CoreError;
 use yurewha::merklehash::{compute_data_hash, compute_internal_node_hash, DataHash, MerkleHashSubtree};
 use yurewha::merklehash::{find_stable_end, find_stable_start};
 use yurewha::own::{try_file_hash, try_file_hash_with_salt, try_xorb_hash, Hasher, Node, Session, SessionFault};
-use yurewha::own::{HashTree, OpenError, OpenedRange, RangeProof};
+use yurewha::own::{HashIndex, HashTree, OpenError, OpenedRange, RangeProof};
 
 // ---- Calls: what each call of the library is here
 
@@ -46,6 +46,7 @@ fn call(name: &str, a: &Arguments) -> Answer {
         _ => match name.split('_').next() {
             Some("subtree") => subtree_call(name, a),
             Some("session") => session_call(name, a),
+            _ if name.starts_with("hash_index_") => index_call(name, a),
             _ => proof_call(name, a),
         },
     }
@@ -146,6 +147,12 @@ fn proof_call(name: &str, a: &Arguments) -> Answer {
         "hash_tree_chunks_at" => is(ends(tree().chunks_at(a.number(1)..a.number(2)).ok_or(NONE)?)),
         "hash_tree_bytes_of" => is(ends(tree().bytes_of(a.count(1)..a.count(2)).ok_or(NONE)?)),
         "hash_tree_proof" => made(tree().proof(a.count(1)..a.count(2))?),
+        "hash_tree_diff" => {
+            let difference = tree().diff(&a.of::<HashTree>(1).borrow());
+            is(difference.map_or(Value::Null, |it| {
+                json!([it.first, it.end, it.other_end, it.start, it.stop, it.other_stop])
+            }))
+        }
         "range_proof_from_chunks" => made(RangeProof::from_chunks(&a.chunks(0), a.count(1)..a.count(2))?),
         "range_proof_levels" => is(levels(&proof())),
         "range_proof_nodes" => is(lines(&proof())),
@@ -172,8 +179,42 @@ fn proof_call(name: &str, a: &Arguments) -> Answer {
     }
 }
 
+fn index_call(name: &str, a: &Arguments) -> Answer {
+    let index = || a.of::<HashIndex>(0);
+    match name {
+        "hash_index_new" => made(HashIndex::new()),
+        "hash_index_insert" => is(index().borrow_mut().insert(pairs(a.hashes(1), a.numbers(2))?)?),
+        "hash_index_find" => is(a
+            .hashes(1)
+            .iter()
+            .map(|hash| index().borrow().get(hash))
+            .collect::<Value>()),
+        "hash_index_entries" => is(sorted(index().borrow().entries()?)
+            .into_iter()
+            .map(|(hash, number)| json!([hash.hex(), number]))
+            .collect::<Value>()),
+        "hash_index_len" => is(index().borrow().len()),
+        _ => panic!("the call {name}"),
+    }
+}
+
+// The crate takes pairs, and no two lists.
+fn pairs(hashes: Vec<DataHash>, numbers: Vec<u64>) -> Result<Vec<(DataHash, u64)>, Refused> {
+    if hashes.len() != numbers.len() {
+        return Err(Refused("ARGUMENTS", None));
+    }
+    Ok(hashes.into_iter().zip(numbers).collect())
+}
+
 // Calls of the library that the crate doesn't have.
-const ABSENT: &[&str] = &["data_hashes", "subtree_nodes", "subtree_from_flat", "session_next_gap"];
+const ABSENT: &[&str] = &[
+    "data_hashes",
+    "subtree_nodes",
+    "subtree_from_flat",
+    "session_next_gap",
+    "hash_tree_common_prefix",
+    "hash_tree_common_suffix",
+];
 
 fn is_absent(name: &str) -> bool {
     ABSENT.contains(&name)
@@ -236,9 +277,9 @@ fn from_flat(counts: &[[u64; 2]], nodes: &[Node]) -> Result<RangeProof, Refused>
     Ok(found?)
 }
 
-fn sorted(mut hashes: Vec<DataHash>) -> Vec<DataHash> {
-    hashes.sort_unstable();
-    hashes
+fn sorted<T: Ord>(mut list: Vec<T>) -> Vec<T> {
+    list.sort_unstable();
+    list
 }
 
 // The JSON of a session, which serde writes, too, with the members in another order.
@@ -409,6 +450,10 @@ impl Arguments<'_> {
         number(&self.given[k])
     }
 
+    fn numbers(&self, k: usize) -> Vec<u64> {
+        array(&self.given[k]).map(number).collect()
+    }
+
     fn count(&self, k: usize) -> usize {
         self.number(k).try_into().unwrap()
     }
@@ -548,6 +593,8 @@ fn state(object: &dyn Any) -> String {
         format!("{:?}", it.borrow())
     } else if let Some(it) = object.downcast_ref::<RefCell<HashTree>>() {
         it.borrow().root().hex()
+    } else if let Some(it) = object.downcast_ref::<RefCell<HashIndex>>() {
+        format!("{:?}", sorted(it.borrow().entries().unwrap()))
     } else if let Some(it) = object.downcast_ref::<RefCell<Hasher>>() {
         it.borrow().finalize().hex()
     } else {
@@ -610,12 +657,13 @@ fn run_test(test: &Value) {
     }
 }
 
+fn folder() -> PathBuf {
+    Path::new(env!("CARGO_MANIFEST_DIR")).join("tests/vectors/scripts")
+}
+
 // All tests of a script. Where one fails, it is named before.
 fn run_script(name: &str) {
-    let path = Path::new(env!("CARGO_MANIFEST_DIR"))
-        .join("tests/vectors/scripts")
-        .join(name);
-    let lines = fs::read_to_string(path).unwrap();
+    let lines = fs::read_to_string(folder().join(name)).unwrap();
     let mut values = lines.lines().map(|line| serde_json::from_str::<Value>(line).unwrap());
     let head = values.next().unwrap();
     let tests: Vec<Value> = values.collect();
@@ -627,12 +675,21 @@ fn run_script(name: &str) {
 }
 
 macro_rules! scripts {
-    ($($test:ident $name:literal)*) => {$(
+    ($($test:ident $name:literal)*) => {
+        $(
+            #[test]
+            fn $test() {
+                run_script($name);
+            }
+        )*
+
         #[test]
-        fn $test() {
-            run_script($name);
+        fn each_script_is_run() {
+            let files = fs::read_dir(folder()).unwrap().map(|file| file.unwrap().file_name());
+            let there: BTreeSet<_> = files.map(|name| name.into_string().unwrap()).collect();
+            assert_eq!(there, BTreeSet::from([$($name.to_owned()),*]));
         }
-    )*};
+    };
 }
 
 scripts! {
@@ -645,7 +702,26 @@ scripts! {
     sessions "sessions.jsonl"
     json_of_sessions "session_json.jsonl"
     proofs_of_parts_of_files "range_proofs.jsonl"
+    numbers_of_hashes "hash_indexes.jsonl"
     lists_of_the_upstream "upstream.jsonl"
+}
+
+// A call of the tables above isn't left out, and scripts make it.
+#[test]
+fn each_call_that_the_crate_has_is_made() {
+    let (tables, _) = include_str!("vectors.rs").split_once("// ---- Answers").unwrap();
+    let arms = tables
+        .lines()
+        .filter_map(|line| line.trim().strip_prefix('"')?.split_once("\" =>"));
+    let mut here: Vec<&str> = arms.map(|(name, _)| name).chain(ABSENT.iter().copied()).collect();
+    here.sort_unstable();
+    let heads = fs::read_dir(folder()).unwrap().map(|file| {
+        let lines = fs::read_to_string(file.unwrap().path()).unwrap();
+        serde_json::from_str::<Value>(lines.lines().next().unwrap()).unwrap()
+    });
+    let names = |head: Value| head["calls"].as_object().unwrap().keys().cloned().collect::<Vec<_>>();
+    let called: BTreeSet<String> = heads.flat_map(names).collect();
+    assert_eq!(here, called.iter().collect::<Vec<_>>());
 }
 
 // Not of vectors, but of the repository, too: the manifest has the licences of the code that the crate compiles.

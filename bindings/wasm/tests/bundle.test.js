@@ -78,3 +78,15 @@ test("both entries export the same names", async () => {
     const given = await browser.load(BYTES);
     assert.ok(given.dataHash(new Uint8Array(3)).hex().length === 64);
 });
+
+test("the entry for browsers fetches whatever has an address, also a file", async () => {
+    const browser = await import("../yurewha/browser.js");
+    const [asked, { fetch }] = [[], globalThis];
+    globalThis.fetch = async (address) => (asked.push(`${address}`), new Response(BYTES));
+    try {
+        await browser.load();
+    } finally {
+        globalThis.fetch = fetch;
+    }
+    assert.deepEqual(asked, [`${new URL("bindings/wasm/yurewha/yurewha.wasm", ROOT)}`]);
+});

@@ -134,6 +134,7 @@ test("texts are strings, marks are true or false, and lists are of pairs", () =>
         assert.throws(() => y.xorbHash(value), TypeError);
         assert.throws(() => y.findStableStart(value), TypeError);
     }
+    assert.throws(() => y.xorbHash("ab"), new TypeError('chunk 0 must be a pair of a hash and a size, got "a"'));
     for (const levels of [null, [1], [[1]], [[1, 2, 3]]]) {
         assert.throws(() => y.Subtree.fromFlat({ atStart: true, levels, nodes: [], atEnd: true }), TypeError);
     }
@@ -403,8 +404,9 @@ test("chunks of a stream need all of their bytes, no more of it is read, and pie
         pull: (controller) => controller.enqueue(new Uint8Array(10 + 0 * given++)),
         cancel: () => void cancelled++,
     }, { highWaterMark: 0 });
-    assert.equal((await y.hashChunks(stream(), [5, 20, 25])).length, 2);
-    assert.deepEqual([given, cancelled], [3, 1]);
+    const longer = stream();
+    assert.equal((await y.hashChunks(longer, [5, 20, 25])).length, 2);
+    assert.deepEqual([given, cancelled, longer.locked], [3, 1, false]);
     const wrong = stream();
     await assert.rejects(y.hashChunks(wrong, [3, 2]), { name: "InvalidArguments" });
     assert.equal(wrong.locked, false);
@@ -596,6 +598,20 @@ test("a range merged with itself is the list twice", () => {
     assert.ok(y.Subtree.merge([range, range]).equals(twice));
     range.mergeInto(range);
     assert.ok(range.equals(twice));
+});
+
+test("the handles of one merge are distinct", async () => {
+    let handles;
+    const { yurewha: it } = await wrapped(BYTES, (exports) => ({
+        ...exports,
+        yurewha_subtree_merge: (at, count, made) => {
+            handles = new BigUint64Array(exports.memory.buffer.slice(at, at + 8 * Number(count)));
+            return exports.yurewha_subtree_merge(at, count, made);
+        },
+    }));
+    const [one, two] = [1, 2].map((seed) => it.Subtree.fromChunks(false, [[it.Hash.randomFromSeed(seed), 1]], false));
+    assert.equal(it.Subtree.merge([one, two, one, one]).totalSize, 4n);
+    assert.deepEqual([handles.length, new Set(handles).size], [4, 4]);
 });
 
 test("of no range the merge is the empty list's", () => {

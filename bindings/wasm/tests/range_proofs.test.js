@@ -51,6 +51,17 @@ test("a stream passes on the chunks of a range, in whatever pieces the data come
     assert.deepEqual(chunk, ["another", "and a third"]);
 });
 
+test("a chunk comes out of a stream once its last byte went in", async () => {
+    const { readable, writable } = opened(1, 3).checking();
+    const [reader, writer] = [readable.getReader(), writable.getWriter()];
+    for (const chunk of DATA.slice(1)) {
+        for (const piece of cut(chunk, [4])) void writer.write(piece);
+        assert.equal(`${Buffer.from((await reader.read()).value)}`, `${chunk}`);
+    }
+    void writer.close();
+    assert.equal((await reader.read()).done, true);
+});
+
 test("a stream passes on nothing that wasn't checked", async () => {
     const whole = Buffer.concat(data.slice(3, 20));
     const mismatch = ([, error]) => error instanceof errors.ProofMismatch && error instanceof errors.YurewhaError;
@@ -190,8 +201,10 @@ test("what can't be overlooked throws where the older calls return null", () => 
         const message = `the proof is of the bytes from 7 up to 25, and not of those from ${from} up to ${to}`;
         assert.throws(() => range.readOrThrow(from, to, both), mismatch(message));
     }
-    assert.throws(() => range.readOrThrow(8, 10, both.subarray(1)), mismatch("the range has 18 bytes, and the data 17"));
-    assert.throws(() => range.readOrThrow(8, 10, both.map((byte) => byte ^ 1)), mismatch("this isn't the data of the range"));
+    for (const [from, to] of [[8, 10], [7, 25], [7, 7], [25, 25]]) {
+        assert.throws(() => range.readOrThrow(from, to, both.subarray(1)), mismatch("the range has 18 bytes, and the data 17"));
+        assert.throws(() => range.readOrThrow(from, to, both.map((byte) => byte ^ 1)), mismatch("this isn't the data of the range"));
+    }
     range.free();
     for (const call of [() => range.checkOrThrow(0, DATA[1]), () => range.readOrThrow(8, 10, both)]) assert.throws(call, errors.EmptyHandle);
 });
@@ -253,6 +266,10 @@ test("a proof reads back from its forms, and tells its parts", () => {
     for (const first of [[hash, size + 1n], [new y.Hash(), size]]) assert.ok(!one.equals(y.RangeProof.fromFlat({ levels, nodes: [first, ...rest] })));
     const [onLeft, onRight] = [[1, 0], [0, 1]].map((counts) => y.RangeProof.fromFlat({ levels: [counts], nodes: nodes(2) }));
     assert.ok(!onLeft.equals(onRight));
+    const [part, whole] = [1, 2].map((count) => y.RangeProof.fromFlat({ levels: [], nodes: nodes(count) }));
+    for (const longer of [whole, y.RangeProof.fromFlat({ levels: [[0, 0]], nodes: nodes(1) })]) {
+        assert.deepEqual([part.equals(longer), longer.equals(part)], [false, false]);
+    }
     const bytes = one.bytes;
     const copied = new y.RangeProof(bytes);
     bytes.fill(0);
@@ -355,9 +372,12 @@ test("arguments have their types", async () => {
         assert.throws(() => proof.open(y.Hash.fromHex(FILE_HASH), value), TypeError);
         assert.throws(() => tree.fileHash(value), TypeError);
         assert.throws(() => proof.openRoot(value), TypeError);
-        assert.throws(() => proof.equals(value), TypeError);
+        assert.throws(() => proof.equals(value), { name: "TypeError", message: /^the other must be a RangeProof, got / });
     }
-    for (const value of [new y.Hash(), new y.Chunks()]) assert.throws(() => proof.equals(value), TypeError); // they have bytes, too
+    // They have bytes, too.
+    for (const value of [new y.Hash(), new y.Chunks()]) {
+        assert.throws(() => proof.equals(value), new TypeError("the other must be a RangeProof, got an object"));
+    }
     assert.throws(() => proof.open(other.Hash.fromHex(FILE_HASH)), TypeError);
     assert.throws(() => new y.OpenedRange(), TypeError);
     assert.throws(() => new y.HashTree(), TypeError);

@@ -1,12 +1,25 @@
 // The scripts of tests/vectors/, through the module: calls of the library with their answers.
 
 import assert from "node:assert/strict";
-import { readFileSync } from "node:fs";
+import { readFileSync, readdirSync } from "node:fs";
 import { test } from "node:test";
 import * as errors from "../yurewha/index.js";
 import { BYTES, ROOT, chunksOf } from "./support.js";
 
-const NAMES = ["hashes", "texts", "roots", "subtrees", "merges", "subtree_json", "range_proofs", "sessions", "session_json", "upstream"];
+const FOLDER = new URL("tests/vectors/scripts/", ROOT);
+const NAMES = [
+    "hashes",
+    "texts",
+    "roots",
+    "subtrees",
+    "merges",
+    "subtree_json",
+    "range_proofs",
+    "sessions",
+    "session_json",
+    "hash_indexes",
+    "upstream",
+];
 const y = await errors.load(BYTES);
 
 // ---- Calls: what each call of the library is here
@@ -17,6 +30,13 @@ function compare(one, other) {
 }
 const linesOf = (nodes) => Array.from(nodes, ([hash, size]) => `${hash} : ${size}\n`).join("");
 const orNull = (pair) => (pair.every((it) => it === null) ? null : pair);
+/** The ends of a difference. The numbers of chunks are doubles, and the places bigints. */
+function endsOf(difference) {
+    if (difference === null) return null;
+    const { first, end, otherEnd, start, stop, otherStop } = difference;
+    assert.ok([first, end, otherEnd].every(Number.isSafeInteger));
+    return [...[first, end, otherEnd].map(BigInt), start, stop, otherStop];
+}
 const CALLS = {
     data_hash: (data) => y.dataHash(data),
     data_hashes: (data, offsets) => y.dataHashes(data, offsets),
@@ -91,6 +111,7 @@ const CALLS = {
     hash_tree_chunks_at: (tree, from, to) => tree.chunksAt(from, to),
     hash_tree_bytes_of: (tree, first, end) => tree.bytesOf(first, end),
     hash_tree_proof: (tree, first, end) => tree.proof(first, end),
+    hash_tree_diff: (tree, other) => endsOf(tree.diff(other)),
     range_proof_from_chunks: (chunks, first, end) => y.RangeProof.fromChunks(chunks, first, end),
     range_proof_levels: (proof) => proof.toFlat().levels,
     range_proof_nodes: (proof) => linesOf(proof.toFlat().nodes),
@@ -107,9 +128,14 @@ const CALLS = {
     // Where the first form returns null, the second one throws.
     opened_range_check: (range, chunk, data) => range.check(chunk, data) ?? range.checkOrThrow(chunk, data),
     opened_range_read: (range, from, to, data) => range.read(from, to, data) ?? range.readOrThrow(from, to, data),
+    hash_index_new: () => new y.HashIndex(),
+    hash_index_insert: (index, hashes, numbers) => index.insert(hashes, numbers),
+    hash_index_find: (index, hashes) => index.find(hashes),
+    hash_index_entries: (index) => index.entries().sort(([one], [other]) => one.compare(other)),
+    hash_index_len: (index) => index.size,
 };
 /** Calls of the library that the package doesn't have. */
-const ABSENT = new Set(["session_next_gap"]);
+const ABSENT = new Set(["session_next_gap", "hash_tree_common_prefix", "hash_tree_common_suffix"]);
 const ERRORS = {
     ARGUMENTS: errors.InvalidArguments,
     SIZES: errors.SizeOverflow,
@@ -149,6 +175,8 @@ const DOUBLES = new Set([
     "hash_tree_chunks_at",
     "range_proof_levels",
     "opened_range_num_chunks",
+    "hash_index_insert",
+    "hash_index_len",
 ]);
 
 // ---- Values: what a script says, and how it would say what the package returns
@@ -196,6 +224,7 @@ function said(it, call) {
 function state(it) {
     if (it instanceof y.HashTree) return it.root.hex();
     if (it instanceof y.OpenedRange) return it.proof.toJSON();
+    if (it instanceof y.HashIndex) return it.saved;
     return it instanceof y.Hasher ? it.hash.hex() : (it.toJSON?.() ?? null);
 }
 const states = (objects) => Object.values(objects).map(state);
@@ -248,10 +277,14 @@ function runTest(kinds, steps) {
     for (const it of Object.values(objects)) it.free?.();
 }
 
+const linesOfScript = (name) => {
+    const lines = readFileSync(new URL(`${name}.jsonl`, FOLDER), "utf8").trimEnd().split("\n");
+    return lines.map((line) => JSON.parse(line));
+};
+
 for (const name of NAMES) {
     test(`wasm32 answers as the script ${name} says`, () => {
-        const lines = readFileSync(new URL(`tests/vectors/scripts/${name}.jsonl`, ROOT), "utf8").trimEnd().split("\n");
-        const [head, ...tests] = lines.map((line) => JSON.parse(line));
+        const [head, ...tests] = linesOfScript(name);
         for (const it of tests) {
             try {
                 runTest(head.calls, it.steps);
@@ -262,3 +295,13 @@ for (const name of NAMES) {
         assert.equal(tests.length, head.numberOfTests);
     });
 }
+
+test("each script is run", () => {
+    const there = readdirSync(FOLDER).filter((file) => file.endsWith(".jsonl"));
+    assert.deepEqual(there.sort(), NAMES.map((name) => `${name}.jsonl`).sort());
+});
+
+test("each call that the package has is made", () => {
+    const called = new Set(NAMES.flatMap((name) => Object.keys(linesOfScript(name)[0].calls)));
+    assert.deepEqual([...called].sort(), [...ABSENT, ...Object.keys(CALLS)].sort());
+});

@@ -120,6 +120,8 @@ test("it fetches by ranges of bytes, of whole chunks and no more", async () => {
     assert.equal(await verified.slice(30_005, 30_010).text(), data.subarray(30_005, 30_010).toString());
     assert.deepEqual(server.asked.ranges, ["bytes=0-29999", "bytes=30001-90000"]);
     assert.ok(Buffer.from(await verified.arrayBuffer()).equals(data));
+    const its = await y.VerifiedBlob.open(tree.fileHash(), new URL(`${server.address}/data`), proofOf);
+    assert.equal(await its.slice(7, 9).text(), data.subarray(7, 9).toString());
 });
 
 test("the page's example reads a part from a server", async () => {
@@ -203,6 +205,12 @@ test("a proof may go beyond what was asked for by chunkLimit bytes on each side"
         else await assert.rejects(read, errors.ProofMismatch);
         assert.deepEqual(calls, [[0, 1], ...(fits ? [[first, end]] : [])], "what doesn't fit isn't fetched");
     }
+    // Of a MiB, if it isn't given.
+    const parts = [1, 1 << 20, 1].map((length) => new Uint8Array(length));
+    const long = y.HashTree.fromChunks(parts.map((part) => [y.dataHash(part), part.length]));
+    const read = (end) => y.VerifiedBlob.open(long.fileHash(), (start, stop) => new Uint8Array(stop - start), () => long.proof(0, end));
+    assert.equal((await read(2)).size, 2 + (1 << 20));
+    await assert.rejects(read(3), errors.ProofMismatch);
 });
 
 test("a piece ahead that fails is told to the next read, and to nobody else", async () => {
@@ -327,6 +335,15 @@ test("parts that were used last are kept, and no more than they may have", async
     const without = await open({ cacheSize: 0 }, refetch);
     for (const place of [0, 0, 0]) await read(without, place);
     assert.equal(again.length, 4);
+    // Of 4 MiB, if it isn't said: the file has more.
+    const [all, fetchAll] = counted(bytesOf);
+    const whole = await open({}, fetchAll);
+    assert.equal((await whole.bytes()).length, data.length);
+    for (const [place, more] of [[data.length - PIECE / 2, 0], [0, 1]]) {
+        const before = all.length;
+        await read(whole, place);
+        assert.equal(all.length - before, more, `${place}`);
+    }
     // Each chunk counts 128 bytes more, so ten of one byte fit here.
     const tiny = Array.from({ length: 100 }, () => Buffer.from("x"));
     const small = y.HashTree.fromChunks(tiny.map((it) => [y.dataHash(it), 1]));
@@ -373,6 +390,8 @@ test("a file that no Blob could be is refused before it is fetched", async () =>
     const message = `the file has ${2n ** 53n + 7n} bytes, and a Blob at most 2^53 - 1`;
     await assert.rejects(y.VerifiedBlob.open(great.fileHash(), fetch, () => great.proof(0, 1)), new RangeError(message));
     assert.deepEqual(calls, []);
+    const greatest = y.HashTree.fromChunks([[y.dataHash(chunk), chunk.length], [new y.Hash(), 2n ** 53n - 8n]]);
+    assert.equal((await y.VerifiedBlob.open(greatest.fileHash(), fetch, () => greatest.proof(0, 1))).size, 2 ** 53 - 1);
 });
 
 test("each part is freed, also after an error", async () => {

@@ -399,7 +399,7 @@ fn changes_ask_for_memory_in_proportion_to_the_chunks(rt: HostRuntime) {
 }
 
 // The most nodes of a list that are copied at once where its elements are nodes in a form of their own.
-const PIECE: u64 = 144;
+const PIECE: u64 = 576;
 
 #[test]
 fn a_root_takes_room_for_a_third_of_the_chunks(rt: HostRuntime) {

@@ -11,6 +11,7 @@ pub mod Merging
 pub mod Messages
 pub mod Rows
 pub mod SharedRows
+pub mod Slots
 pub mod Subtrees
 pub mod Turned
 pub mod Waiting

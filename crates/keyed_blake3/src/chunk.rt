@@ -1,9 +1,9 @@
 //! The chaining value of a chunk, block by block (BLAKE3 specification, 2.4).
 
-ghost use Rattle.std.specs.Prelude.{◌≡◌, ℕ, ◌+◌, ◌*◌, ◌≤◌, List, drop, length};
+ghost use Rattle.std.specs.Prelude.{◌≡◌, ℕ, ◌+◌, ◌*◌, ◌<◌, ◌≤◌, List, drop, length};
 ghost use Rattle.std.specs.Int.{from_le_bytes, w32};
 ghost use Rattle.keyed_blake3.specs.Blake3.{block, blocks_before_last, chunk_end_flag, chunk_value, compress, keyed_hash_flag, start_flag, words_at};
-ghost use Rattle.keyed_blake3.specs.Steps.Blocks.{value_after};
+ghost use Rattle.keyed_blake3.specs.Steps.Blocks.{block_flags, value_after};
 
 use crate::compression::compress;
 
@@ -63,6 +63,18 @@ pub(crate) fn start_flag(place: u64) -> u32
     ensures { result ≡ start_flag place }
 {
     if place == 0 { CHUNK_START } else { 0 }
+}
+
+// Returns the flags of block number `n` of a whole chunk.
+#[inline(always)]
+pub(crate) fn flags_of(n: u64) -> u32
+    requires { n < 16 }
+    ensures { (chunk : List ℕ) → length chunk ≡ 1024 → result ≡ block_flags chunk n 0 }
+{
+    if n < BLOCKS_PER_CHUNK - 1 {
+        return KEYED_HASH + start_flag(n);
+    }
+    KEYED_HASH + start_flag(n) + CHUNK_END
 }
 
 // Returns the chaining value of a chunk from that before its last block: block number `place`, of which `rest` are the

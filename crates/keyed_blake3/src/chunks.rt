@@ -5,8 +5,8 @@ ghost use Rattle.std.specs.Prelude.{◌≡◌, ℕ, ◌+◌, ◌*◌, ◌/◌, �
 ghost use Rattle.keyed_blake3.specs.Blake3.{block, chunk_value, compress, words_at};
 ghost use Rattle.keyed_blake3.specs.Steps.Lanes.{AreFull, chunk_at, lane};
 
-use crate::chunk::{BLOCK_LEN, BLOCKS_PER_CHUNK, CHUNK_END, CHUNK_LEN, KEYED_HASH, start_flag};
-use crate::compression::lanes::{BLOCKS_OF_CHUNKS, compress_each, counters};
+use crate::chunk::{BLOCK_LEN, BLOCKS_PER_CHUNK, CHUNK_LEN, flags_of};
+use crate::compression::lanes::{BLOCKS_OF_CHUNKS, BLOCKS_OF_MESSAGES, compress_each, counters};
 use crate::compression::width::{Lanes, Width};
 
 // Returns `L` words of each chunk from place `at` on.
@@ -62,6 +62,34 @@ fn block_of_each<W: Width<L, B>, const L: usize, const B: usize>(
     words
 }
 
+// Returns the chaining values `h` after block number `n` of each chunk, of which `lens` has the bytes that count and `flags` the flags.
+// Each caller has a copy of its own, as of `compress_each`.
+#[inline(always)]
+fn values_after<W: Width<L, B>, const L: usize, const B: usize, const CALLER: usize>(
+    h: &[Lanes<L>; 8],
+    chunks: &[u8],
+    places: &[usize; L],
+    n: usize,
+    counters: &(Lanes<L>, Lanes<L>),
+    lens: &Lanes<L>,
+    flags: &Lanes<L>,
+) -> [Lanes<L>; 8]
+    requires full { AreFull L h.now }
+    requires places { (j : ℕ) → j < L → 1024 * slice_index places.now j + 1024 ≤ length chunks.now }
+    requires block { n < 16 }
+    requires counters { (length counters.now.0 ≡ L) × (length counters.now.1 ≡ L) }
+    requires lens { length lens.now ≡ L }
+    requires flags { length flags.now ≡ L }
+    ensures full { AreFull L result }
+    ensures lanes { (j c : ℕ) → j < L → slice_index counters.now.0 j ≡ c % 2 ^ 32
+        → slice_index counters.now.1 j ≡ c / 2 ^ 32 → lane j result ≡ compress (lane j h.now)
+        (words_at 16 (block (chunk_at (slice_index places.now j) chunks.now) n)) c
+        (slice_index lens.now j) (slice_index flags.now j) }
+{
+    let words = block_of_each::<W, L, B>(chunks, places, n);
+    compress_each::<W, L, B, CALLER>(h, &words, counters, lens, flags)
+}
+
 // Takes in block number `n` of each chunk, of which `lens` has the bytes that count and `flags` the flags: the chaining values `h` are
 // then those after the block. It holds the whole compression of a block, so that the message words stay in its own frame.
 #[inline(never)]
@@ -86,8 +114,7 @@ pub(crate) fn take_block<W: Width<L, B>, const L: usize, const B: usize>(
         (words_at 16 (block (chunk_at (slice_index places.now j) chunks.now) n)) c
         (slice_index lens.now j) (slice_index flags.now j) }
 {
-    let words = block_of_each::<W, L, B>(chunks, places, n);
-    *h = compress_each::<W, L, B, BLOCKS_OF_CHUNKS>(h, &words, counters, lens, flags);
+    *h = values_after::<W, L, B, BLOCKS_OF_MESSAGES>(h, chunks, places, n, counters, lens, flags);
 }
 
 // Returns the key's words, the same for each lane.
@@ -109,7 +136,9 @@ pub(crate) fn key_of_each<W: Width<L, B>, const L: usize, const B: usize>(
     ]
 }
 
-// Returns the chaining values of the chunks at some places. The first of `chunks` has number `first`.
+// Returns the chaining values of the chunks at some places. The first of `chunks` has number `first`. It holds the compressions,
+// so that the values stay in registers from block to block.
+#[inline(never)]
 pub(crate) fn chunk_values<W: Width<L, B>, const L: usize, const B: usize>(
     key: &[u32; 8],
     chunks: &[u8],
@@ -122,23 +151,14 @@ pub(crate) fn chunk_values<W: Width<L, B>, const L: usize, const B: usize>(
     ensures lanes { (j : ℕ) → j < L → lane j result ≡ chunk_value key.now (first + slice_index places.now j)
         (chunk_at (slice_index places.now j) chunks.now) 0 }
 {
-    let last = BLOCKS_PER_CHUNK - 1;
     let counters = counters(first, places);
     let lens = W::each(BLOCK_LEN as u32);
     let mut h = key_of_each::<W, L, B>(key);
-    'chain: for n in 0..last {
-        let flags = W::each(KEYED_HASH + start_flag(n));
-        take_block::<W, L, B>(&mut h, chunks, places, n as usize, &counters, &lens, &flags);
+    'chain: for n in 0..BLOCKS_PER_CHUNK {
+        let flags = W::each(flags_of(n));
+        h = values_after::<W, L, B, BLOCKS_OF_CHUNKS>(
+            &h, chunks, places, n as usize, &counters, &lens, &flags,
+        );
     }
-    let flags = W::each(KEYED_HASH + CHUNK_END);
-    take_block::<W, L, B>(
-        &mut h,
-        chunks,
-        places,
-        last as usize,
-        &counters,
-        &lens,
-        &flags,
-    );
     h
 }

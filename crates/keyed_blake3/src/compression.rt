@@ -51,7 +51,9 @@ fn words_of(h: &Values<4>) -> [u32; 8]
     [x[0], x[1], x[2], x[3], y[0], y[1], y[2], y[3]]
 }
 
-// Returns the compression of a message block, from the chaining value `h`.
+// Returns the compression of a message block, from the chaining value `h`. It is never inlined, so that the machine check finds
+// one function that compresses a block.
+#[inline(never)]
 pub(crate) fn compress(
     h: &[u32; 8],
     m: &[u32; 16],

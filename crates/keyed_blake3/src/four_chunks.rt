@@ -7,7 +7,7 @@ ghost use Rattle.keyed_blake3.specs.Steps.Blocks.{block_flags};
 ghost use Rattle.keyed_blake3.specs.Steps.Lanes.{AreFull, chunk_at, lane, value_at};
 ghost use Rattle.keyed_blake3.specs.Steps.Rows.{quad_at, words_in};
 
-use crate::chunk::{BLOCK_LEN, BLOCKS_PER_CHUNK, CHUNK_END, CHUNK_LEN, KEYED_HASH, start_flag};
+use crate::chunk::{BLOCK_LEN, BLOCKS_PER_CHUNK, CHUNK_LEN, flags_of};
 use crate::compression::four::{beside, four_times, lanes_of_values};
 use crate::compression::rows::{Quads, Rows};
 use crate::compression::states::{BLOCKS, FourStates, States, compress_all, last_row};
@@ -57,18 +57,6 @@ fn blocks_of(chunks: &[u8], places: &[usize; 4], n: usize) -> Quads<16>
         c: lanes_of(quads_from(chunks, places, at + 32)),
         d: lanes_of(quads_from(chunks, places, at + 48)),
     })
-}
-
-// Returns the flags of block number `n` of a whole chunk.
-#[inline(always)]
-fn flags_of(n: u64) -> u32
-    requires { n < 16 }
-    ensures { (chunk : List ℕ) → length chunk ≡ 1024 → result ≡ block_flags chunk n 0 }
-{
-    if n < BLOCKS_PER_CHUNK - 1 {
-        return KEYED_HASH + start_flag(n);
-    }
-    KEYED_HASH + start_flag(n) + CHUNK_END
 }
 
 // Returns the last rows of the states: those of blocks of 64 bytes with the flags `flags`. The first of `chunks` has number `first`.

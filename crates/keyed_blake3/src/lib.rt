@@ -8,11 +8,12 @@
 //! - `two_chunks` compresses those of two chunks at once, and `four_chunks` those of four.
 //! - `chunks` compresses those of several chunks side by side.
 //! - `messages` hashes several messages of at most a chunk side by side.
+//! - `slots` hashes messages that begin slots of a chunk's length, where they are.
 //! - `subtrees` compresses several chunks and their parents side by side, up to the value of a complete subtree.
 //! - `tree` compresses the chaining values of two subtrees into their parent's, up to the root.
 #![tactic(auto)]
 
-ghost use Rattle.std.specs.Prelude.{◌≡◌, ℕ, ◌<◌, ◌≤◌, [], get_or, length, map, replicate};
+ghost use Rattle.std.specs.Prelude.{◌≡◌, ℕ, ◌<◌, ◌≤◌, [], get_or, length, map, replicate, slice_index, take};
 ghost use Rattle.keyed_blake3.specs.Blake3.{keyed_hash};
 
 mod chunk;
@@ -21,6 +22,7 @@ mod compression;
 mod four_chunks;
 mod hasher;
 mod messages;
+mod slots;
 mod subtrees;
 mod tree;
 mod two_chunks;
@@ -29,6 +31,7 @@ use chunk::{CHUNK_LEN, chunk_value, words};
 pub use hasher::Hasher;
 use hasher::UNKEYED;
 use messages::{are_short, hash_next};
+use slots::fill_last_blocks;
 use tree::{ROOT, output};
 use two_chunks::two_chunk_values;
 
@@ -73,6 +76,36 @@ pub fn keyed_hash_each<const N: usize>(key: &[u8; 32], messages: &[&[u8]]) -> [[
     let mut done = 0;
     'messages: while done < messages.len() {
         done = hash_next(key, messages, done, short, &mut hashes);
+    }
+    hashes
+}
+
+/// The number of slots of [`keyed_hash_slots`].
+pub const SLOTS: usize = 16;
+
+/// The bytes of a slot: the most that a message in it may have.
+pub const SLOT_LEN: usize = 1024;
+
+/// Returns the keyed BLAKE3 hashes of messages in slots under one key: element j of the result is that of message j, which is the first
+/// `lens[j]` bytes of slot j. They are hashed side by side where they are, so none is copied. What follows a message in its slot may be
+/// overwritten.
+pub fn keyed_hash_slots(
+    key: &[u8; 32],
+    slots: &mut [[u8; SLOT_LEN]; SLOTS],
+    lens: &[usize],
+) -> [[u8; 32]; SLOTS]
+    requires sizes { (j : ℕ) → j < SLOTS → length (get_or slots.old j []) ≡ SLOT_LEN }
+    requires few { length lens.now ≤ SLOTS }
+    requires short { (j : ℕ) → j < length lens.now → slice_index lens.now j ≤ SLOT_LEN }
+    ensures sizes { (j : ℕ) → j < SLOTS → length (get_or slots.new j []) ≡ SLOT_LEN }
+    ensures hashes { (j : ℕ) → j < length lens.now
+        → get_or result j [] ≡ keyed_hash key.now (take (slice_index lens.now j) (get_or slots.old j [])) }
+{
+    let mut hashes = [[0; 32]; SLOTS];
+    fill_last_blocks(slots, lens);
+    let mut done = 0;
+    'messages: while done < lens.len() {
+        done = slots::hash_next(key, slots, lens, done, &mut hashes);
     }
     hashes
 }

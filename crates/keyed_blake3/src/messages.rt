@@ -2,10 +2,10 @@
 //! messages may have their own lengths.
 
 ghost use Rattle.std.specs.Prelude.{◌≡◌, ◌≢◌, ℕ, ◌+◌, ◌-◌, ◌*◌, ◌<◌, ◌≤◌, ◌++◌, IsTrue, List, [], drop, get_or, length, map, replicate, slice_index};
-ghost use Rattle.keyed_blake3.specs.Blake3.{block, blocks_before_last, keyed_hash};
+ghost use Rattle.keyed_blake3.specs.Blake3.{block, blocks_before_last, chunk_value, keyed_hash, words_at};
 ghost use Rattle.keyed_blake3.specs.Steps.Blocks.{block_flags, block_len};
 ghost use Rattle.keyed_blake3.specs.Steps.Lanes.{AreFull, lane};
-ghost use Rattle.keyed_blake3.specs.Steps.Messages.{AreShort};
+ghost use Rattle.keyed_blake3.specs.Steps.Messages.{AreShort, HasMessage};
 
 use crate::chunk::{BLOCK_LEN, CHUNK_END, CHUNK_LEN, KEYED_HASH, last_block, start_flag, words};
 use crate::chunks::{key_of_each, take_block};
@@ -17,7 +17,7 @@ use crate::{keyed_hash, keyed_hash_two};
 use std::simd::prelude::*;
 
 // The most messages that are hashed two by two. More of them take less time side by side, though lanes stand empty.
-const FEW: usize = if WIDEST > 4 { 4 } else { 2 };
+pub(crate) const FEW: usize = if WIDEST > 4 { 4 } else { 2 };
 
 // Returns whether no message has more than a chunk.
 pub(crate) fn are_short(messages: &[&[u8]]) -> bool
@@ -133,6 +133,35 @@ fn all_kept<const L: usize>(
     ]
 }
 
+// Returns the values of messages side by side. The message of each lane begins the chunk at the lane's place, where zero bytes fill up
+// its last block. That block has number `last`, and `rest` of its bytes are the message's. None has a number above `most`.
+pub(crate) fn ended_values<W: Width<L, B>, const L: usize, const B: usize>(
+    key: &[u8; 32],
+    chunks: &[u8],
+    places: &[usize; L],
+    last: &Lanes<L>,
+    rest: &Lanes<L>,
+    most: usize,
+) -> [Lanes<L>; 8]
+    requires places { (j : ℕ) → j < L → 1024 * slice_index places.now j + 1024 ≤ length chunks.now }
+    requires full { (length last.now ≡ L) × (length rest.now ≡ L) }
+    requires most { most < 16 }
+    ensures full { AreFull L result }
+    ensures lanes { (j : ℕ) (m : List ℕ) → j < L → blocks_before_last m ≤ most
+        → HasMessage chunks.now places.now last.now rest.now j m → lane j result ≡ chunk_value (words_at 8 key.now) 0 m 8 }
+{
+    let zero = W::each(0);
+    let counters = (zero, zero);
+    let mut h = key_of_each::<W, L, B>(&words(key));
+    let mut ended = h;
+    'chain: for n in 0..most + 1 {
+        let (lens, flags) = lens_and_flags::<W, L, B>(last, rest, n as u32);
+        take_block::<W, L, B>(&mut h, chunks, places, n, &counters, &lens, &flags);
+        ended = all_kept(&ended, &h, last, n as u32);
+    }
+    ended
+}
+
 // Returns the most blocks that a message has before its last one.
 fn most_before_last(messages: &[&[u8]]) -> usize
     requires { AreShort (map (λ m. m.now) messages.now) }
@@ -165,17 +194,9 @@ fn hash_side_by_side<W: Width<L, B>, const L: usize, const B: usize, const N: us
     let mut last = [0; L];
     let mut rest = [0; L];
     put_side_by_side(messages, &mut chunks, &mut last, &mut rest);
-    let places = neighbours(L - 1);
-    let zero = W::each(0);
-    let counters = (zero, zero);
-    let mut h = key_of_each::<W, L, B>(&words(key));
-    let mut ended = h;
-    'chain: for n in 0..most_before_last(messages) + 1 {
-        let (lens, flags) = lens_and_flags::<W, L, B>(&last, &rest, n as u32);
-        let bytes = chunks.as_flattened();
-        take_block::<W, L, B>(&mut h, bytes, &places, n, &counters, &lens, &flags);
-        ended = all_kept(&ended, &h, &last, n as u32);
-    }
+    let most = most_before_last(messages);
+    let bytes = chunks.as_flattened();
+    let ended = ended_values::<W, L, B>(key, bytes, &neighbours(L - 1), &last, &rest, most);
     'hashes: for j in 0..messages.len() {
         hashes[at + j] = output(&lane(&ended, j));
     }

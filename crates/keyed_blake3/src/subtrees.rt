@@ -77,25 +77,6 @@ fn parent_values<W: Width<L, B>, const L: usize, const B: usize>(
     values_of_parents::<W, L, B>(key, &pair_of_each::<W, L, B>(left, right))
 }
 
-// Returns the values of the parents of which lane j of `left` and lane j of `right` have the two subtrees.
-fn values_above<W: Width<L, B>, const L: usize, const B: usize>(
-    key: &[u32; 8],
-    left: &[Lanes<L>; 8],
-    right: &[Lanes<L>; 8],
-) -> [Lanes<L>; 8]
-    requires left { AreFull L left.now }
-    requires right { AreFull L right.now }
-    ensures full { AreFull L result }
-    ensures lanes { (j : ℕ) → j < L
-        → lane j result ≡ parent_value key.now (lane j left.now) (lane j right.now) 0 }
-{
-    let message = [
-        left[0], left[1], left[2], left[3], left[4], left[5], left[6], left[7], right[0], right[1],
-        right[2], right[3], right[4], right[5], right[6], right[7],
-    ];
-    values_of_parents::<W, L, B>(key, &message)
-}
-
 // Returns the places of chunks that follow each other, 0 to `last`. Lanes that are left over take the last one again.
 pub(crate) fn neighbours<const L: usize>(last: usize) -> [usize; L]
     ensures { (j : ℕ) → j < L → (slice_index result j ≤ last) × (j ≤ last → slice_index result j ≡ j) }
@@ -103,20 +84,6 @@ pub(crate) fn neighbours<const L: usize>(last: usize) -> [usize; L]
     let mut places = [0; L];
     'places: for j in 0..L {
         places[j] = j.min(last);
-    }
-    places
-}
-
-// Returns the places of the first chunks of subtrees that follow each other, of `len` chunks each.
-fn starts<W: Width<L, B>, const L: usize, const B: usize>(len: usize) -> [usize; L]
-    requires { len < 2 ^ 54 }
-    ensures { (j : ℕ) → j < L → slice_index result j ≡ len * j }
-{
-    let mut places = [0; L];
-    let mut place = 0;
-    'places: for j in 0..L {
-        places[j] = place;
-        place += len;
     }
     places
 }
@@ -133,31 +100,31 @@ fn moved<const L: usize>(places: &[usize; L], by: usize) -> [usize; L]
     next
 }
 
-// Returns the values of subtrees of `size` chunks, of which that of lane j begins at place j. The first of `chunks` has
-// number `first`. Each lane reads the chunks of its own subtree one after another, since a processor reads ahead where it
-// sees a stream, and it sees none in chunks that share pages.
-fn values_apart<W: Width<L, B>, const L: usize, const B: usize>(
+// Returns the values of `L` subtrees of `size` chunks that follow each other. The first one begins at place `place` of some chunks, of
+// which the first has number `first`. The chunks are taken in their order, `L` at a time, as they lie in memory: rows that are a multiple
+// of 4 KiB apart would share a few lines of the nearest cache.
+fn neighbour_values<W: Width<L, B>, const L: usize, const B: usize>(
     key: &[u32; 8],
     chunks: &[u8],
-    places: &[usize; L],
+    place: usize,
     size: usize,
     first: u64,
 ) -> [Lanes<L>; 8]
     requires some { 0 < size }
     requires counter { first + length chunks.now / 1024 < 2 ^ 64 }
-    requires places { (j : ℕ) → j < L → 1024 * (slice_index places.now j + size) ≤ length chunks.now }
+    requires chunks { 1024 * (place + size * L) ≤ length chunks.now }
     ensures full { AreFull L result }
     ensures lanes { (k j : ℕ) (m : List ℕ) → size ≡ 2 ^ k → j < L
         → chunks.now ≡ take (length chunks.now) (drop (1024 * first) m)
-        → lane j result ≡ subtree_at key.now k (first + slice_index places.now j) m }
+        → lane j result ≡ subtree_at key.now k (first + (place + size * j)) m }
 {
     if size == 1 {
-        return chunk_values::<W, L, B>(key, chunks, places, first);
+        return chunk_values::<W, L, B>(key, chunks, &moved(&neighbours(L - 1), place), first);
     }
     let half = size / 2;
-    let left = values_apart::<W, L, B>(key, chunks, places, half, first);
-    let right = values_apart::<W, L, B>(key, chunks, &moved(places, half), half, first);
-    values_above::<W, L, B>(key, &left, &right)
+    let left = neighbour_values::<W, L, B>(key, chunks, place, half, first);
+    let right = neighbour_values::<W, L, B>(key, chunks, place + half * L, half, first);
+    parent_values::<W, L, B>(key, &left, &right)
 }
 
 // Returns a vector's first two lanes: two words, and zeros.
@@ -281,7 +248,7 @@ pub(crate) fn subtree_values<W: Width<L, B>, const L: usize, const B: usize>(
         return chunk_values::<W, L, B>(key, chunks, &places, first);
     }
     let len = chunks.len() / (CHUNK_LEN * L);
-    values_apart::<W, L, B>(key, chunks, &starts::<W, L, B>(len), len, first)
+    neighbour_values::<W, L, B>(key, chunks, 0, len, first)
 }
 
 // Returns the block of a parent: the values of its two subtrees (2.5).

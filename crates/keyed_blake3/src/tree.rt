@@ -72,7 +72,8 @@ fn is_joined(rest: u64, used: usize, kept: usize) -> bool
 
 // Adds the value of subtree number `number` of one size to those that wait, joined with each of its size on its left: as
 // a 1 is added to a binary number, with a carry for each join. The first `kept` values aren't joined: `kept` is 0 if more
-// bytes follow, and 1 if the message ends, since that join may make the root.
+// bytes follow, and 1 if the message ends, since that join may make the root. It is never inlined, as `compress` isn't.
+#[inline(never)]
 fn add_subtree_value(
     cv_stack: &mut [[u32; 8]; MAX_DEPTH],
     key: &[u32; 8],

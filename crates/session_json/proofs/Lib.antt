@@ -1,9 +1,11 @@
 pub mod Broken
 pub mod Faults
 pub mod Following
+pub mod HexText
 pub mod OneMeaning
 pub mod JsonValues
 pub mod Rising
 pub mod Runs
+pub mod Sides
 pub mod Strict
 pub mod Text

@@ -35,3 +35,13 @@ joined text a b c d e f g ta tb tc td te tf tg ha hb hc hd he hf hg =
     ∙ ap (λ t. t ++ (d ++ (e ++ (f ++ g)))) hc ∙ append_assoc tb c (d ++ (e ++ (f ++ g)))
     ∙ ap (λ t. t ++ (c ++ (d ++ (e ++ (f ++ g))))) hb ∙ append_assoc ta b (c ++ (d ++ (e ++ (f ++ g))))
     ∙ ap (λ t. t ++ (b ++ (c ++ (d ++ (e ++ (f ++ g)))))) ha ∙ append_assoc text a (b ++ (c ++ (d ++ (e ++ (f ++ g)))))
+
+-- what comes of adding nine
+pub joined_nine : (text a b c d e f g h i ta tb tc td te tf tg th ti : List ℕ) → ta ≡ text ++ a → tb ≡ ta ++ b → tc ≡ tb ++ c → td ≡ tc ++ d
+    → te ≡ td ++ e → tf ≡ te ++ f → tg ≡ tf ++ g → th ≡ tg ++ h → ti ≡ th ++ i
+    → ti ≡ text ++ (a ++ (b ++ (c ++ (d ++ (e ++ (f ++ (g ++ (h ++ i))))))))
+joined_nine text a b c d e f g h i ta tb tc td te tf tg th ti ha hb hc hd he hf hg hh hi =
+    joined tb c d e f g h i tc td te tf tg th ti hc hd he hf hg hh hi
+    ∙ ap (λ t. t ++ (c ++ (d ++ (e ++ (f ++ (g ++ (h ++ i))))))) (hb ∙ ap (λ t. t ++ b) ha ∙ append_assoc text a b)
+    ∙ append_assoc text (a ++ b) (c ++ (d ++ (e ++ (f ++ (g ++ (h ++ i))))))
+    ∙ ap (λ t. text ++ t) (append_assoc a b (c ++ (d ++ (e ++ (f ++ (g ++ (h ++ i)))))))

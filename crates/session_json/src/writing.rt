@@ -1,37 +1,20 @@
 //! Writes the JSON text of a session. It needs no tree of values, which would take several times the memory of the text, since a
 //! session may know millions of hashes.
 
-ghost use Rattle.std.specs.Prelude.{◌≡◌, ◌++◌, ◌∷◌, [], List, codes, decimal, map, IfOk, OnOk};
+ghost use Rattle.std.specs.Prelude.{◌≡◌, ◌++◌, ◌∷◌, [], List, codes, map, IfOk, OnOk};
 ghost use Rattle.serde_json.specs.Data.{array};
 ghost use Rattle.serde_json.specs.View.{items_of};
-ghost use Rattle.serde_json.specs.Written.{comma_if, compact_text};
+ghost use Rattle.serde_json.specs.Written.{compact_text};
 ghost use Rattle.level_nodes.specs.NodeJson.{number_json};
 ghost use Rattle.xet_merkle.specs.SubtreeJson.{subtree_json};
 ghost use Rattle.session_json.specs.SessionJson.{hash_json, run_json, session_json, AreKnownInOrder, IsTextOf};
 
-use std::alloc::{AllocError, Allocator, Global};
+use crate::pieces::{push_comma, push_number};
+use crate::subtree_text::push_subtree;
+use std::alloc::{AllocError, Global};
 use subtree_sessions::session::Session;
 use xet_hash::data_hash::MerkleHash;
-use xet_merkle::laws::subtree_json_has_no_float;
 use xet_merkle::merkle_hash_subtree::MerkleHashSubtree;
-
-// Writes a comma, if something stands before.
-fn push_comma(text: &mut Vec<u8>, later: bool) -> Result<(), AllocError>
-    ensures { OnOk result (text.new.items ≡ text.old.items ++ comma_if later) }
-{
-    if later {
-        text.push(b',')?;
-    }
-    Ok(())
-}
-
-// Writes a number in decimal.
-fn push_number(text: &mut Vec<u8>, number: u64) -> Result<(), AllocError>
-    ensures { OnOk result (text.new.items ≡ text.old.items ++ decimal number) }
-{
-    let mut digits = itoa::Buffer::new();
-    text.extend_from_slice(digits.format(number).as_bytes())
-}
 
 // Writes a hash as an array of its four words.
 fn push_hash(text: &mut Vec<u8>, hash: &MerkleHash) -> Result<(), AllocError>
@@ -65,27 +48,9 @@ fn push_hashes(text: &mut Vec<u8>, hashes: &[MerkleHash]) -> Result<(), AllocErr
     Ok(())
 }
 
-// Writes a subtree.
-fn push_subtree(
-    alloc: Global,
-    text: &mut Vec<u8>,
-    subtree: &MerkleHashSubtree,
-) -> Result<(), AllocError>
-    ensures { OnOk result (text.new.items ≡ text.old.items ++ compact_text (subtree_json subtree.now)) }
-{
-    let Ok(value) = subtree.to_json(alloc) else {
-        return Err(AllocError);
-    };
-    // The contract needs this law: `to_vec` promises its text only for values without floats.
-    subtree_json_has_no_float();
-    let written = value.to_vec(alloc)?;
-    text.extend_from_slice(&written)
-}
-
 // Writes a run as an object of its positions and its subtree.
 #[tactic(auto, unfolding(json::specs::Print::escape_byte))]
 fn push_run(
-    alloc: Global,
     text: &mut Vec<u8>,
     first: u64,
     end: u64,
@@ -99,13 +64,13 @@ fn push_run(
     text.extend_from_slice(b",\"end\":")?;
     push_number(text, end)?;
     text.extend_from_slice(b",\"chunks\":")?;
-    push_subtree(alloc, text, range)?;
+    push_subtree(text, range)?;
     text.push(b'}')?;
     Ok(())
 }
 
 // Writes the runs of a session as an array, by rising position.
-fn push_runs(alloc: Global, text: &mut Vec<u8>, session: &Session) -> Result<(), AllocError>
+fn push_runs(text: &mut Vec<u8>, session: &Session) -> Result<(), AllocError>
     ensures { OnOk result (text.new.items ≡ text.old.items
         ++ compact_text (array (items_of (map run_json session.now.runs)))) }
 {
@@ -115,7 +80,7 @@ fn push_runs(alloc: Global, text: &mut Vec<u8>, session: &Session) -> Result<(),
     let (mut later, mut position) = (false, 0);
     'runs: while let Some((first, end, range)) = session.run_from(position) {
         push_comma(text, later)?;
-        push_run(alloc, text, first, end, range)?;
+        push_run(text, first, end, range)?;
         (later, position) = (true, end);
     }
     text.push(b']')?;
@@ -134,7 +99,7 @@ pub fn session_text(
 {
     let mut text = Vec::new(alloc);
     text.extend_from_slice(b"{\"runs\":")?;
-    push_runs(alloc, &mut text, session)?;
+    push_runs(&mut text, session)?;
     text.extend_from_slice(b",\"known_hashes\":")?;
     push_hashes(&mut text, hashes)?;
     text.push(b'}')?;

@@ -10,7 +10,9 @@ ghost use Rattle.xet_hash.specs.HashForms.{random_hash};
 ghost use Rattle.xet_hash.specs.Hash.{default_hash, bytes_of, hash_of, hex_text, data_key, internal_key, marker_hash, IsHash, IsHexText};
 
 use crate::hex_digits::{is_hex_text, lower_digits, spelled_bytes};
-use keyed_blake3::{keyed_hash, keyed_hash_each, keyed_hash_two};
+use keyed_blake3::{
+    SLOT_LEN, SLOTS, keyed_hash, keyed_hash_each, keyed_hash_slots, keyed_hash_two,
+};
 use rand_core::{Rng, SeedableRng};
 use rand_xoshiro::Xoshiro256PlusPlus;
 use std::marker::Model;
@@ -273,6 +275,27 @@ pub fn compute_internal_node_hashes<const N: usize>(texts: &[&[u8]]) -> [DataHas
     let mut hashes = [DataHash::default(); N];
     'hashes: for j in 0..texts.len() {
         hashes[j] = DataHash::from(of_each[j]);
+    }
+    hashes
+}
+
+/// Returns the hashes of inner nodes, each that of [`compute_internal_node_hash`]: element j of the result is that of text j, which is
+/// the first `lens[j]` bytes of slot j. The texts are hashed where they are. What follows a text in its slot may be overwritten.
+pub fn compute_internal_node_hashes_in_slots(
+    slots: &mut [[u8; SLOT_LEN]; SLOTS],
+    lens: &[usize],
+) -> [DataHash; SLOTS]
+    requires sizes { (j : ℕ) → j < 16 → length (get_or slots.old j []) ≡ 1024 }
+    requires few { length lens.now ≤ 16 }
+    requires short { (j : ℕ) → j < length lens.now → slice_index lens.now j ≤ 1024 }
+    ensures sizes { (j : ℕ) → j < 16 → length (get_or slots.new j []) ≡ 1024 }
+    ensures hashes { (j : ℕ) → j < length lens.now → get_or result j []
+        ≡ hash_of (keyed_hash internal_key (take (slice_index lens.now j) (get_or slots.old j []))) }
+{
+    let of_each = keyed_hash_slots(&INTERNAL_KEY, slots, lens);
+    let mut hashes = [DataHash::default(); SLOTS];
+    'hashes: for k in 0..lens.len() {
+        hashes[k] = DataHash::from(of_each[k]);
     }
     hashes
 }

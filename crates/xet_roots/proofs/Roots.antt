@@ -1,3 +1,5 @@
+pub mod Digits
 pub mod Making
 pub mod OneRoot
 pub mod Pieces
+pub mod Placed

@@ -1,2 +1,4 @@
 pub mod Room
 pub mod Scan
+pub mod Places
+pub mod Digits

@@ -3,17 +3,17 @@
 //!
 //! The root of a list is the root of the parents of its groups.
 
-ghost use Rattle.std.specs.Prelude.{◌≡◌, ◌⊎◌, ◌+◌, ◌^◌, ◌<◌, ◌≤◌, ◌↔◌, List, drop, length, map, replicate, take, IsOk, IfOk, IfErr, IsErrOf, IsFalse, IsTrue};
+ghost use Rattle.std.specs.Prelude.{◌≡◌, ◌⊎◌, ◌+◌, ◌^◌, ◌<◌, ◌≤◌, ◌↔◌, ◌++◌, List, drop, length, map, replicate, take, IsOk, IfOk, IfErr, IsErrOf, IsFalse, IsTrue};
 ghost use Rattle.xet_roots.specs.Groups.{Node};
 ghost use Rattle.xet_roots.specs.Roots.{total_size, parent_by, parent, salted_root, IsRoot, IsFileHash};
-ghost use Rattle.xet_roots.specs.Steps.Scan.{AreFirstGroups, AreParents, PushesParents, StayFirstGroups};
+ghost use Rattle.xet_roots.specs.Steps.Scan.{AreFirstGroups, AreParents, MadeSoFar, PushesParents, StayFirstGroups};
 ghost use Rattle.xet_roots.specs.Steps.Room.{most_made};
 
 use crate::error::CoreError;
 pub use crate::groups::AGGREGATED_HASHES_MEAN_TREE_BRANCHING_FACTOR;
 use crate::groups::{
-    ENOUGH, MIN_GROUP_LEN, MOST_AT_ONCE, first_group_len, first_groups, group_size, parent,
-    total_size, two_parents,
+    ENOUGH, MIN_GROUP_LEN, MOST_AT_ONCE, SEVERAL, first_group_len, first_groups, group_size,
+    parent, total_size, two_parents,
 };
 use crate::parent_maker::{ParentHashes, ParentMaker};
 use std::alloc::{AllocError, Allocator};
@@ -48,8 +48,32 @@ pub(crate) fn first_parents<P: ParentMaker>(
     (parents, count, read)
 }
 
-// Adds the parents of the groups of some nodes to a list. The hashes come from a maker. In fewer nodes than are enough, groups go two by
-// two, since a call for several has to clear memory for all that there may be.
+// Adds the parents of the first groups of some nodes to a list, as many as are made at once. Returns how many nodes these groups have. If
+// there are enough nodes, the groups stay the same whatever nodes follow. It stays a function, since it clears memory for all the parents
+// that there may be.
+#[inline(never)]
+pub(crate) fn push_first_parents<A: Allocator, P: ParentMaker>(
+    made: &mut Vec<Node, A>,
+    nodes: &[Node],
+    maker: &mut P,
+) -> Result<usize, AllocError>
+    requires some { 0 < length nodes.now }
+    requires fits { total_size nodes.now < 2 ^ 64 }
+    requires room { P.count maker.old + MOST_AT_ONCE ≤ 2 ^ 100 }
+    ensures within { IfOk result (λ read. (0 < read) × (read ≤ length nodes.now)) }
+    ensures parents { IfOk result (λ read. (groups : List (List Node)) × AreFirstGroups nodes.now groups (drop read nodes.now)
+        × (made.new.items ≡ made.old.items ++ map (parent_by P.hash_of) groups)
+        × (ENOUGH ≤ length nodes.now → StayFirstGroups nodes.now groups (drop read nodes.now))) }
+    ensures few { IfOk result (λ read. length made.new.items ≤ length made.old.items + read) }
+    ensures count { IfOk result (λ _. P.count maker.new + length made.old.items ≡ P.count maker.old + length made.new.items) }
+{
+    let (parents, count, read) = first_parents(nodes, maker);
+    made.extend_from_slice(&parents[..count])?;
+    Ok(read)
+}
+
+// Adds the parents of the groups of some nodes to a list. The hashes come from a maker. Few groups go two by two, since
+// a call for several has to clear memory for all that there may be.
 pub(crate) fn push_parents<A: Allocator, P: ParentMaker>(
     made: &mut Vec<Node, A>,
     nodes: &[Node],
@@ -63,9 +87,8 @@ pub(crate) fn push_parents<A: Allocator, P: ParentMaker>(
     ensures few { IfOk result (λ _. length made.new.items < 2 ^ 64) }
 {
     let mut rest = nodes;
-    'batches: while rest.len() >= ENOUGH {
-        let (parents, count, read) = first_parents(rest, maker);
-        made.extend_from_slice(&parents[..count])?;
+    'batches: while rest.len() >= SEVERAL {
+        let read = push_first_parents(made, rest, maker)?;
         let (_, after) = rest.split_at(read);
         rest = after;
     }
@@ -101,20 +124,36 @@ pub fn parents<A: Allocator, P: ParentMaker>(
     Ok(made)
 }
 
-// Replaces nodes by the parents of their groups, in place.
-fn shrink<A: Allocator>(nodes: &mut Vec<Node, A>)
+// Replaces nodes by the parents of their first groups, several at a time, in place. Returns how many parents they are, and where the nodes
+// that are left begin. It stays a function for the same reason.
+#[inline(never)]
+fn shrink_several<A: Allocator>(nodes: &mut Vec<Node, A>) -> (usize, usize)
     requires { total_size nodes.old.items < 2 ^ 64 }
-    ensures { AreParents parent nodes.old.items nodes.new.items }
+    ensures within { (result.0 ≤ result.1) × (result.1 ≤ length nodes.new.items) }
+    ensures so_far { MadeSoFar parent nodes.old.items (take result.0 nodes.new.items) (drop result.1 nodes.new.items) }
+    ensures fits { total_size (drop result.1 nodes.new.items) ≤ total_size nodes.old.items }
 {
     let mut made = 0;
     let mut read = 0;
-    'batches: while nodes.len() - read >= ENOUGH {
+    'batches: while nodes.len() - read >= SEVERAL {
         let (parents, count, more) = first_parents(&nodes[read..], &mut ParentHashes::new());
         'parents: for j in 0..count {
             nodes[made + j] = parents[j];
         }
         made += count;
         read += more;
+    }
+    (made, read)
+}
+
+// Replaces nodes by the parents of their groups, in place.
+fn shrink<A: Allocator>(nodes: &mut Vec<Node, A>)
+    requires { total_size nodes.old.items < 2 ^ 64 }
+    ensures { AreParents parent nodes.old.items nodes.new.items }
+{
+    let (mut made, mut read) = (0, 0);
+    if nodes.len() >= SEVERAL {
+        (made, read) = shrink_several(nodes);
     }
     'groups: while read < nodes.len() {
         let rest = &nodes[read..];

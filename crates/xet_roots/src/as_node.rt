@@ -7,7 +7,7 @@ ghost use Rattle.xet_roots.specs.Roots.{total_size, parent_by, IsRoot};
 ghost use Rattle.xet_roots.specs.Steps.Scan.{AreParents};
 ghost use Rattle.xet_roots.specs.Steps.Room.{most_made};
 
-use crate::aggregated_hashes::{Node, first_parents, push_parents, root};
+use crate::aggregated_hashes::{Node, push_first_parents, push_parents, root};
 use crate::error::CoreError;
 use crate::groups::{ENOUGH, MIN_GROUP_LEN};
 use crate::parent_maker::{ParentHashes, ParentMaker};
@@ -67,8 +67,7 @@ fn parents_of<A: Allocator + Copy, T: AsNode, P: ParentMaker>(
     let mut rest = nodes;
     'pieces: while rest.len() > ENOUGH {
         read_piece(&mut piece, rest)?;
-        let (parents, count, read) = first_parents(&piece, maker);
-        made.extend_from_slice(&parents[..count])?;
+        let read = push_first_parents(&mut made, &piece, maker)?;
         let (_, after) = rest.split_at(read);
         rest = after;
     }

@@ -8,5 +8,6 @@ pub mod error;
 pub mod groups;
 pub mod laws;
 pub mod parent_maker;
+mod sizes;
 
 pub use error::CoreError;

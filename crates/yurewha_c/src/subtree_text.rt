@@ -11,21 +11,9 @@ use crate::status::{DONE, EMPTY_HANDLE, MEMORY, ROOM, RULE, TEXT, status_of};
 use crate::subtree_handle::SubtreeHandle;
 use crate::text::write_text;
 use serde_json::Value;
-use std::alloc::{AllocError, Global};
-use xet_merkle::laws::subtree_json_has_no_float;
+use session_json::subtree_text::subtree_text;
+use std::alloc::Global;
 use xet_merkle::merkle_hash_subtree::MerkleHashSubtree;
-
-// Returns the compact JSON text of a subtree.
-fn json_text(alloc: Global, subtree: &MerkleHashSubtree) -> Result<Vec<u8>, AllocError>
-    ensures { IfOk result (λ text. text.items ≡ compact_text (subtree_json subtree.now)) }
-{
-    let Ok(value) = subtree.to_json(alloc) else {
-        return Err(AllocError);
-    };
-    // The contract needs this law: `to_vec` promises its text only for values without floats.
-    subtree_json_has_no_float();
-    value.to_vec(alloc)
-}
 
 /// Writes the compact JSON text of a subtree to `room`, and its length to `text_len`.
 ///
@@ -57,7 +45,7 @@ pub extern "C" fn yurewha_subtree_to_json(
     let Some(kept) = subtree.take(alloc) else {
         return EMPTY_HANDLE;
     };
-    let text = json_text(alloc, &kept);
+    let text = subtree_text(alloc, &kept);
     subtree.put(kept);
     match text {
         Ok(text) => write_text(&text, room, text_len),

@@ -471,6 +471,16 @@ def _wide_without_flags(operands: List[str], at: int, following: int) -> "Step":
     return step
 
 
+def _shifted_without_flags(operands: List[str], at: int, following: int) -> "Step":
+    """`shrx`: a number shifted to the right by the count in the third operand."""
+    to, source, count = (Operand(it, following) for it in operands)
+
+    def step(m: "X86") -> None:
+        to.store(m, number(source.get(m)) >> number(count.get(m)) % (8 * to.size))
+
+    return step
+
+
 def _other_order(operands: List[str], at: int, following: int) -> "Step":
     """`bswap`."""
     to = Operand(operands[0], following)
@@ -499,7 +509,7 @@ def _count(name: str, operands: List[str], following: int) -> "Step":
 _BY_NAME = {
     "jmp": _jump, "call": _call, "ret": _return, "ud2": _trap, "push": _push, "pop": _pop, "mov": _move, "movabs": _move,
     "xchg": _exchange, "movzx": _zero_extended, "movsx": _sign_extended, "movsxd": _sign_extended, "lea": _address, "imul": _product,
-    "mulx": _wide_without_flags, "bswap": _other_order,
+    "mulx": _wide_without_flags, "shrx": _shifted_without_flags, "bswap": _other_order,
 }
 _GROUPS = {
     _two: ("add", "sub", "cmp", "adc", "sbb", "and", "or", "xor", "test"), _one: ("inc", "dec", "neg", "not"),

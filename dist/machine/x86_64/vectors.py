@@ -103,8 +103,8 @@ def _each_lane(f: Callable[..., Vector]) -> Callable[..., Vector]:
     return lambda *vectors: [word for i in range(0, len(vectors[0]), LANE) for word in f(*(it[i:i + LANE] for it in vectors))]
 
 
-def _signed(value: int) -> int:
-    return value - (1 << 64) if value >> 63 else value
+def _signed(value: int, bits: int = 64) -> int:
+    return value - (1 << bits) if value >> bits - 1 else value
 
 
 def _bytes_of(words: Vector) -> Vector:
@@ -157,6 +157,7 @@ _OF_TWO: Dict[str, OfTwo] = {
     "paddd": _each(add), "paddq": _each_pair(add_64), "psubq": _each_pair(lambda x, y: (number(x) - number(y)) & M64),
     "pmuludq": _each_pair(lambda x, y: number(low(x)) * number(low(y))),
     "pcmpgtq": _each_pair(lambda x, y: M64 * (_signed(number(x)) > _signed(number(y)))),
+    "pcmpgtd": _each(lambda x, y: M32 * (_signed(number(x), 32) > _signed(number(y), 32))),
     "pcmpeqd": _each(lambda x, y: M32 if x is y else M32 * (number(x) == number(y))),
     "punpckldq": _each_lane(lambda a, b: [a[0], b[0], a[1], b[1]]), "punpckhdq": _each_lane(lambda a, b: [a[2], b[2], a[3], b[3]]),
     "punpcklqdq": _each_lane(lambda a, b: [*a[:2], *b[:2]]), "punpckhqdq": _each_lane(lambda a, b: [*a[2:], *b[2:]]),

@@ -8,8 +8,10 @@ import json
 import sys
 from typing import Callable, Iterable
 
-from . import hashes, json_texts, merges, range_proofs, roots, schemas, session_scripts, session_texts, sessions, subtrees, texts, upstream
+from . import (hash_indexes, hashes, json_texts, merges, range_proofs, roots, schemas, session_scripts, session_texts, sessions, subtrees,
+               texts, upstream)
 from .files import FOLDER, File, differences
+from .scripts import Script
 from .steps import script_of
 
 Maker = Callable[[], File]
@@ -19,13 +21,16 @@ FILES: dict[str, Maker] = {
     "range_proofs": range_proofs.file, "subtree_json": json_texts.file, "sessions": sessions.file, "session_json": session_texts.file,
     "texts": texts.file}
 BY_MODEL = {**FILES, "upstream": upstream.model_file}
+# Scripts whose calls a file of vectors doesn't have. The others are made of their files.
+SCRIPTS: dict[str, Callable[[], Script]] = {"hash_indexes": hash_indexes.script, "sessions": session_scripts.script}
+ALL_SCRIPTS = tuple(dict.fromkeys((*FILES, *SCRIPTS)))
 
 
 def made(maker: Maker) -> dict[str, str]:
-    """The texts of a file of vectors and of its script, by path."""
+    """The texts of a file of vectors and of the script that is made of it, by path."""
     file = maker()
-    script = session_scripts.script() if file.name == "sessions" else script_of(file)
-    return {f"{file.name}.json": file.text(), script_path(file.name): script.text()}
+    script = {} if file.name in SCRIPTS else {script_path(file.name): script_of(file).text()}
+    return {f"{file.name}.json": file.text(), **script}
 
 
 def script_path(name: str) -> str:
@@ -39,6 +44,7 @@ def all_texts(makers: dict[str, Maker], jobs: int) -> dict[str, str]:
     with concurrent.futures.ProcessPoolExecutor(jobs) as pool:
         for texts_made in pool.map(made, makers.values()):
             found.update(texts_made)
+    found.update({script_path(name): maker().text() for name, maker in SCRIPTS.items()})
     return found
 
 
@@ -97,10 +103,10 @@ def check(arguments: list[str]) -> int:
     """Checks that the stored files are those that are made, and keep their schemas."""
     jobs = jobs_of("Makes the test vectors again, compares them with the stored ones, and validates those.", arguments)
     try:
-        faults = [fault for name in FILES for of in (faults_of, faults_of_script) for fault in of(name)]
+        faults = [fault for of, names in ((faults_of, FILES), (faults_of_script, ALL_SCRIPTS)) for name in names for fault in of(name)]
     except ImportError:
         print("tests/vectors/check: install jsonschema (Debian: python3-jsonschema)", file=sys.stderr)
         return 1
     faults += differences(all_texts(BY_MODEL, jobs))
-    print("\n".join(faults) or f"{len(FILES)} files and their scripts are what the model says, and keep their schemas")
+    print("\n".join(faults) or f"{len(FILES)} files and {len(ALL_SCRIPTS)} scripts are what the model says, and keep their schemas")
     return 1 if faults else 0

@@ -5,7 +5,7 @@ from __future__ import annotations
 import itertools
 from typing import Any, Iterable, Sequence, Union
 
-from . import lists, opened_proofs, proof_texts
+from . import differences, lists, opened_proofs, proof_texts
 from .files import File, Group, Test, invalid, valid
 from .lists import Told, ToldData
 from .model import m, range_proof
@@ -27,6 +27,7 @@ HEADER = [
     "The chunks at some bytes, from start up to, but without, stop: the least range of chunks with all these bytes that are "
     "in the file. There is none unless some are. The bytes of the chunks from first to end are where these begin and end in "
     "the file. There are none unless first < end <= the number of chunks.",
+    *differences.HEADER,
     "A proof, whoever made it, is opened with a root, or with a file hash under a salt. On each level, from the chunks up, "
     "these are one list: the left side, the nodes that come from below (on level 0 the range), the right side. The parents of "
     "its groups go to the next level. Those of the last level, or the range itself if there is no level, have to be one node, "
@@ -64,6 +65,7 @@ NOTES = {
     "GreatestSize": "The sizes add up to 2^64 - 1, the greatest possible sum.",
     "InvalidArguments": "The range has no chunk, or isn't in the list. This is reported before the sizes are checked.",
     "SizeOverflow": "The sizes of all nodes add up to more than 2^64 - 1.",
+    **differences.NOTES,
     **opened_proofs.NOTES,
     **proof_texts.NOTES,
 }
@@ -248,5 +250,5 @@ def refusal(told: Told, first: int, end: int) -> str:
 def file() -> File:
     """range_proofs.json."""
     groups = [examples(), refusals(), of_sizes(), every_range(), drawn(), long_lists(), *opened_proofs.groups(),
-              *proof_texts.groups()]
-    return File("range_proofs", "proofs of parts of files", HEADER, NOTES, groups, HEADER)
+              *proof_texts.groups(), *differences.groups()]
+    return File("range_proofs", "proofs of parts of files", HEADER, NOTES, groups, [*HEADER, differences.ANSWER])

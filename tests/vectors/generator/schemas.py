@@ -190,7 +190,15 @@ def _trees() -> list[Schema]:
     salted = array(record({"saltBytes": ref("key"), "fileHash": ref("hash")}))
     tree = valid_or_invalid({"list": ref("file")}, answer, {"error": one_of("SizeOverflow")}, {"salted": salted})
     refused = test({"list": ref("file"), "first": COUNT, "end": COUNT, "error": one_of("InvalidArguments", "SizeOverflow")})
-    return [group("HashTree", tree), group("ProofRefused", refused)]
+    return [group("HashTree", tree), group("Difference", _two_files()), group("ProofRefused", refused)]
+
+
+def _two_files() -> Schema:
+    suffix = record({"most": ref("number"), "count": COUNT})
+    chunks = {name: COUNT for name in ("first", "end", "otherEnd")}
+    difference = record({**chunks, **{name: ref("number") for name in ("start", "stop", "otherStop")}})
+    return test({"list": ref("file"), "other": ref("file"), "commonPrefix": COUNT, "commonSuffixes": array(suffix),
+                 "difference": {"anyOf": [difference, {"type": "null"}]}})
 
 
 def _opening() -> Schema:

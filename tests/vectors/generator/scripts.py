@@ -42,6 +42,8 @@ CALLS = {
     "hash_tree_from_chunks": "chunks", "hash_tree_root": "hash_tree", "hash_tree_file_hash": "hash_tree bytes",
     "hash_tree_num_chunks": "hash_tree", "hash_tree_total_size": "hash_tree", "hash_tree_chunks_at": "hash_tree number number",
     "hash_tree_bytes_of": "hash_tree number number", "hash_tree_proof": "hash_tree number number",
+    "hash_tree_common_prefix": "hash_tree hash_tree", "hash_tree_common_suffix": "hash_tree hash_tree number",
+    "hash_tree_diff": "hash_tree hash_tree",
     "range_proof_from_chunks": "chunks number number", "range_proof_levels": "range_proof", "range_proof_nodes": "range_proof",
     "range_proof_to_json": "range_proof", "range_proof_from_json": "text", "range_proof_from_flat": "levels chunks",
     "range_proof_to_bytes": "range_proof", "range_proof_from_bytes": "data",
@@ -49,6 +51,9 @@ CALLS = {
     "opened_range_file_size": "opened_range", "opened_range_num_chunks": "opened_range",
     "opened_range_bytes_of": "opened_range number", "opened_range_check": "opened_range number data",
     "opened_range_read": "opened_range number number data",
+    # Indexes of hashes.
+    "hash_index_new": "", "hash_index_insert": "hash_index hashes numbers", "hash_index_find": "hash_index hashes",
+    "hash_index_entries": "hash_index", "hash_index_len": "hash_index",
 }
 
 

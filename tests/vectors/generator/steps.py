@@ -295,6 +295,25 @@ def hash_tree(_: Group, it: Test) -> Steps:
         yield from made_proof(it, row)
 
 
+#: The members of a difference, and those of the difference that the other file has from this one.
+ENDS = ("first", "end", "otherEnd", "start", "stop", "otherStop")
+OTHER_ENDS = ("first", "otherEnd", "end", "start", "otherStop", "stop")
+
+
+def difference(_: Group, it: Test) -> Steps:
+    """Two files, each beside itself, and beside the other one."""
+    for name, told in (("t", it["list"]), ("u", it["other"])):
+        yield call("hash_tree_from_chunks", told, makes=name)
+        yield call("hash_tree_common_prefix", name, name, gives=length_of(told))
+        yield call("hash_tree_diff", name, name, gives=None)
+    found = it["difference"]
+    for one, other, ends in (("t", "u", ENDS), ("u", "t", OTHER_ENDS)):
+        yield call("hash_tree_common_prefix", one, other, gives=it["commonPrefix"])
+        for row in it["commonSuffixes"]:
+            yield call("hash_tree_common_suffix", one, other, whole(row["most"]), gives=row["count"])
+        yield call("hash_tree_diff", one, other, gives=found and [number(int(found[end])) for end in ends])
+
+
 def made_proof(it: Test, row: dict[str, Any]) -> Steps:
     """A proof of some chunks of a tree, which is opened."""
     yield call("hash_tree_proof", "t", row["first"], row["end"], makes="p")
@@ -398,7 +417,7 @@ KINDS: dict[str, Callable[[Group, Test], Iterable[Step]]] = {
     "HashOrder": hash_order, "Root": root, "Parent": parent, "RootSteps": root_steps, "StablePoints": stable_points,
     "Subtree": subtree, "Merge": merge, "MergeRefused": merge_refused, "Bracketing": bracketing,
     "SubtreeJson": subtree_json, "SessionJson": read("session", "from_json", "RULE"),
-    "HashTree": hash_tree, "ProofRefused": proof_refused, "OpenProof": open_proof,
+    "HashTree": hash_tree, "Difference": difference, "ProofRefused": proof_refused, "OpenProof": open_proof,
     "ProofJson": read("range_proof", "from_json", "PROOF_RULE"), "FlatProof": flat_proof, "ProofBytes": proof_bytes}
 #: What a test says that no call answers, for whoever looks for a fault.
 TOLD = ("words", "rustFinalHash")

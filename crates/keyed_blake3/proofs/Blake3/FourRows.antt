@@ -47,6 +47,24 @@ words_by_fours b =
       drop-drop 12 48 b,
     ) refl
 
+-- sixteen words, read by halves
+pub length-eight_words : (bytes : List ℕ) → length (words_at 8 bytes) ≡ 8
+unfolding words_at
+length-eight_words bytes = refl
+
+pub words_by_halves : (b : List ℕ) → words_at 8 b ++ words_at 8 (drop 32 b) ≡ words_at 16 b
+unfolding words_at
+words_by_halves b =
+    rw (
+      drop-drop 4 32 b,
+      drop-drop 8 32 b,
+      drop-drop 12 32 b,
+      drop-drop 16 32 b,
+      drop-drop 20 32 b,
+      drop-drop 24 32 b,
+      drop-drop 28 32 b,
+    ) refl
+
 -- four words of block n of chunk p, from word t on
 pub quad_of_block : (bytes : List ℕ) (p n : ℕ) → 1024 * p + 1024 ≤ length bytes → n < 16 → (at s t : ℕ) → at ≡ 64 * n + s → s ≡ 4 * t → t ≤ 12
     → words_at 4 (drop (1024 * p + at) bytes) ≡ words_at 4 (drop s (block (chunk_at p bytes) n))

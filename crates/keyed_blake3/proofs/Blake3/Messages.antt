@@ -1,7 +1,7 @@
 -- Messages side by side, each in a chunk of its own.
-use Rattle.std.proofs.Common.{◌≡◌, ℕ, suc, zero, ◌+◌, ◌-◌, ◌*◌, ◌^◌, ◌<◌, ◌≤◌, List, [], ◌∷◌, ◌++◌, Bool, false, cond, length, map, take, drop, get_or, replicate, eqb, Bor, inl, inr, sym, ap, subst, ◌∙◌, arith, append_assoc, length-drop, w32}
+use Rattle.std.proofs.Common.{◌≡◌, ℕ, suc, zero, ◌+◌, ◌-◌, ◌*◌, ◌^◌, ◌<◌, ◌≤◌, List, [], ◌∷◌, ◌++◌, Bool, false, cond, length, map, take, drop, get_or, replicate, eqb, Bor, inl, inr, sym, ap, subst, ◌∙◌, arith, append_assoc, append-nil, length-append, length-drop, w32, ◌⊎◌}
 use Rattle.std.proofs.lemmas.Bool.{cases_lt}
-use Rattle.std.proofs.lemmas.List.{drop_at, drop-append-le, drop-drop, drop-replicate, get_or-drop, get_or-map, get_or-take, length-map, length-replicate, length-take-le, replicate-append-replicate, take_at, take-append-le, take-replicate}
+use Rattle.std.proofs.lemmas.List.{drop_at, drop-append-le, drop-drop, drop-replicate, get_or-drop, get_or-map, get_or-take, length-map, length-replicate, length-take-le, nil_from_length, replicate-append-replicate, take_at, take-append-le, take-replicate}
 use Rattle.std.proofs.Math.Seq.{take-append-add}
 use Rattle.std.proofs.lemmas.Simd.{get_or-replicate, get_or-sel_l, get_or-zip2, length-zip2, tops_compared}
 use Rattle.std.specs.List.{flat_map}
@@ -68,6 +68,29 @@ block_padded m n short within =
     ap (λ (x : List ℕ). x ++ replicate 64 0) (drop-append-le (64 * n) m (replicate more 0) (omega arith))
     ∙ append_assoc rest (replicate more 0) (replicate 64 0) ∙ ap (λ (x : List ℕ). rest ++ x) (replicate-append-replicate more 64 0) in
     ap (λ (x : List ℕ). take 64 (drop (64 * n) (m ++ x) ++ replicate 64 0)) zeros ∙ ap (take 64) joined ∙ padded_alike rest (more + 64) (omega arith)
+
+-- nor does it lose them if zeros follow that fill up its last block, or all that is left
+pub block_filled : (m rest : List ℕ) (k n : ℕ) → (64 ≤ k) ⊎ (length rest ≡ 0) → n ≤ blocks_before_last m
+    → block ((m ++ replicate k 0) ++ rest) n ≡ block m n
+block_filled m rest k n enough within =
+    let left : List ℕ = drop (64 * n) m in
+    let zeros : List ℕ = replicate k 0 in
+    let dropped : drop (64 * n) ((m ++ zeros) ++ rest) ≡ left ++ (zeros ++ rest) =
+    ap (drop (64 * n)) (append_assoc m zeros rest) ∙ drop-append-le (64 * n) m (zeros ++ rest) (omega arith) in
+    ap (λ (x : List ℕ). take 64 (x ++ replicate 64 0)) dropped
+    ∙ elim enough [
+      | inl long ↦
+          let size : 64 ≤ length (left ++ zeros) = omega (arith, length-append left zeros, length-replicate {A = ℕ} k 0) in
+          let regrouped : (left ++ (zeros ++ rest)) ++ replicate 64 0 ≡ (left ++ zeros) ++ (rest ++ replicate 64 0) =
+          ap (λ (x : List ℕ). x ++ replicate 64 0) (sym (append_assoc left zeros rest)) ∙ append_assoc (left ++ zeros) rest (replicate 64 0) in
+          ap (take 64) regrouped ∙ take-append-le 64 (left ++ zeros) (rest ++ replicate 64 0) size ∙ padded_alike left k long
+      | inr empty ↦
+          let gone : rest ≡ [] = nil_from_length rest empty in
+          let regrouped : (left ++ (zeros ++ rest)) ++ replicate 64 0 ≡ left ++ replicate (k + 64) 0 =
+          ap (λ (x : List ℕ). (left ++ x) ++ replicate 64 0) (ap (λ (x : List ℕ). zeros ++ x) gone ∙ append-nil zeros)
+          ∙ append_assoc left zeros (replicate 64 0) ∙ ap (λ (x : List ℕ). left ++ x) (replicate-append-replicate k 64 0) in
+          ap (take 64) regrouped ∙ padded_alike left (k + 64) (omega arith)
+    ]
 
 -- the first chunks of rows of 1024 bytes
 pub chunk_at_row : (rows : List (List ℕ)) (j : ℕ) → ((i : ℕ) → i < length rows → length (get_or rows i []) ≡ 1024) → j < length rows

@@ -1,7 +1,8 @@
 -- Subtrees of one size, side by side.
-use Rattle.std.proofs.Common.{◌≡◌, ℕ, zero, suc, ◌+◌, ◌-◌, ◌*◌, ◌/◌, ◌^◌, ◌<◌, ◌≤◌, List, [], ◌++◌, length, take, drop, get_or, refl, sym, ap, ◌∙◌, arith, length-drop}
+use Rattle.std.proofs.Common.{inl, inr, ◌≡◌, ℕ, zero, suc, ◌+◌, ◌-◌, ◌*◌, ◌/◌, ◌^◌, ◌<◌, ◌≤◌, List, [], ◌++◌, length, take, drop, get_or, refl, sym, ap, ◌∙◌, arith, length-drop}
 use Rattle.std.proofs.Math.Nat.{mul-add, mul-div_cancel, mul-le-mul_left, mul-le-mul_right, mul_assoc, mul_comm, one-mul, pow-succ'}
-use Rattle.std.proofs.lemmas.List.{get_or_append_left, drop-drop, drop-take, length-map, length-take, take-take}
+use Rattle.std.proofs.lemmas.List.{get_or-append_right, get_or_append_left, drop-drop, drop-take, length-map, length-take, take-take}
+use Rattle.std.proofs.lemmas.Bool.{cases_lt}
 use Rattle.std.proofs.lemmas.List.FromFn.{fill_by_all}
 use Rattle.std.proofs.lemmas.Nat.{pow_pos}
 use Rattle.keyed_blake3.specs.Blake3.{chunk_value, parent_value}
@@ -18,6 +19,11 @@ pub beside_left : {l : ℕ} → (v w : List (List ℕ)) (j : ℕ) → length v �
 beside_left v w j size full h =
     sym (fill_by_all (λ (k : ℕ). get_or (get_or v k [] ++ get_or w k []) j 0) (lane j v) 8 0 (length-map _ _ ∙ size)
     (λ k fits. sym (lane_at j v k) ∙ sym (get_or_append_left (get_or v k []) (get_or w k []) 0 j (rw (full_at v k full (rw size fits)) h))))
+
+pub beside_right : {l : ℕ} → (v w : List (List ℕ)) (j : ℕ) → length v ≡ 8 → length w ≡ 8 → AreFull l v → l ≤ j → lane j (beside v w) ≡ lane (j - l) w
+beside_right {l} v w j size_v size_w full h =
+    sym (fill_by_all (λ (k : ℕ). get_or (get_or v k [] ++ get_or w k []) j 0) (lane (j - l) w) 8 0 (length-map _ _ ∙ size_w)
+    (λ k fits. sym (lane_at (j - l) w k) ∙ sym (get_or-append_right (get_or v k []) (get_or w k []) l j 0 (full_at v k full (rw size_v fits)) h)))
 
 -- ---- subtrees
 
@@ -96,6 +102,31 @@ chunk_apart key first p k m bytes value one long is e =
     let chunk : chunk_at p bytes ≡ chunk_at (first + p) m = ap (chunk_at p) is ∙ chunk_at_within m first (length bytes) p (omega (arith, long)) in
     e ∙ ap (λ (x : List ℕ). chunk_value key (first + p) x 0) chunk ∙ sym (subtree_at-chunk key (first + p) m)
     ∙ ap (λ (i : ℕ). subtree_at key i (first + p) m) (sym (one_of_power k one))
+
+-- the values of subtrees, of which two lists of l follow each other
+pub both_beside : (l : ℕ) (key : List ℕ) (first place size k : ℕ) (m : List ℕ) (left right : List (List ℕ)) → length left ≡ 8 → length right ≡ 8 → AreFull l left
+    → ((j : ℕ) → j < l → lane j left ≡ subtree_at key k (first + (place + size * j)) m)
+    → ((j : ℕ) → j < l → lane j right ≡ subtree_at key k (first + (place + size * l + size * j)) m)
+    → (i : ℕ) → i < 2 * l → lane i (beside left right) ≡ subtree_at key k (first + (place + size * i)) m
+both_beside l key first place size k m left right size_l size_r full ls rs i h = elim (cases_lt i l) [
+    | inl less ↦ beside_left left right i size_l full less ∙ ls i less
+    | inr more ↦
+      let sum : size * l + size * (i - l) ≡ size * i = sym (mul-add size l (i - l)) ∙ ap (λ (n : ℕ). size * n) (omega (arith, more)) in
+      beside_right left right i size_l size_r full more ∙ rs (i - l) (omega (arith, more, h))
+      ∙ ap (λ (n : ℕ). subtree_at key k (first + n) m) (omega (arith, sum))
+]
+
+-- a size that is halved
+pub two_halves : (k size : ℕ) → size ≡ 2 ^ k → 1 < size → 2 * (size / 2) ≡ size
+two_halves zero size e several = absurd (omega (arith, e, several))
+two_halves (suc k) size e several = omega (arith, pow-succ' 2 k, e)
+
+-- two lists of subtrees of half the size
+pub both_within : (size l : ℕ) → size / 2 * l + size / 2 * l ≤ size * l
+both_within size l =
+    let twice : 2 * (size / 2) ≤ size = omega arith in
+    let within : 2 * (size / 2) * l ≤ size * l = mul-le-mul_right l twice in
+    omega (arith, within, mul_assoc 2 (size / 2) l)
 
 -- the parent of the values of both halves of a subtree
 pub halves_apart : (key : List ℕ) (c k size half : ℕ) (m left right : List ℕ) → size ≡ 2 ^ k → 1 < size → half ≡ size / 2 → 1024 * (c + size) ≤ length m

@@ -17,3 +17,7 @@ by_twos k = k / 4 * 4 + k % 2 + 16 * (k % 4 / 2)
 -- the places of every second quarter
 abbrev pub quarters : ℕ → ℕ
 quarters k = k / 4 * 8 + k % 4
+
+-- the places of the first half of each row
+abbrev pub halves : ℕ → ℕ
+halves k = k / 8 * 16 + k % 8

@@ -115,7 +115,9 @@ fn folded<W: Width<L, B>, const L: usize, const B: usize>(v: &LaneRows<L, B>) ->
 // The callers of `compress_each`, by what they compress.
 pub(crate) const BLOCKS_OF_CHUNKS: usize = 0;
 
-const PARENTS: usize = 1;
+pub(crate) const BLOCKS_OF_MESSAGES: usize = 1;
+
+const PARENTS: usize = 2;
 
 // Returns the compression of blocks, from the chaining values `h`. `counters` has the halves of each one's counter. Each caller
 // has a copy of its own, by its number `CALLER`: LLVM inlines a function of this size at its only call alone.

@@ -7,19 +7,11 @@ use Rattle.xet_hash.specs.Hash.{default_hash, bytes_of, hash_of}
 use Rattle.xet_roots.specs.Groups.{Node, Groups}
 use Rattle.xet_roots.specs.Roots.{total_size, parent_by, parent, IsRoot, IsFileHash}
 use Rattle.xet_roots.specs.Roots.IsRootBy.{no_node, one_node, of_parents}
-use Rattle.xet_roots.specs.Steps.Scan.{IsFirstGroup, AreFirstGroups, AreParents, PushesParents}
+use Rattle.xet_roots.specs.Steps.Scan.{IsFirstGroup, AreFirstGroups, AreParents, LeadsTo, PushesParents}
 use Rattle.xet_roots.proofs.Grouping.OneCutting.{joined_nodes, Groups-push}
 use Rattle.xet_roots.proofs.Roots.OneRoot.{Groups-few, Groups-some}
 
--- some parents are made and a rest is left: whatever groups the rest has, theirs complete the parents to what is wanted
-abbrev pub LeadsTo : (List Node → Node) → (List Node → Type 0) → List Node → List Node → Type 0
-LeadsTo make Wanted made rest = (groups : List (List Node)) → Groups rest groups → Wanted (made ++ map make groups)
-
--- to the parents of the groups of some nodes
-abbrev pub MadeSoFar : (List Node → Node) → List Node → List Node → List Node → Type 0
-MadeSoFar make nodes made rest = LeadsTo make (AreParents make nodes) made rest
-
--- and to these after others
+-- some parents are made that lead to the parents of the groups of some nodes after others
 abbrev pub PushedSoFar : (List Node → Node) → List Node → List Node → List Node → List Node → Type 0
 PushedSoFar make nodes old made rest = LeadsTo make (PushesParents make nodes old) made rest
 

@@ -23,3 +23,11 @@ StayFirstGroups nodes groups rest = (more : List Node) → AreFirstGroups (nodes
 -- the parents of the groups of a list are added to `old`
 abbrev pub PushesParents : (List Node → Node) → List Node → List Node → List Node → Type 0
 PushesParents make nodes old new = (parents : List Node) × AreParents make nodes parents × (new ≡ old ++ parents)
+
+-- some parents are made and a rest is left: whatever groups the rest has, theirs complete the parents to what is wanted
+abbrev pub LeadsTo : (List Node → Node) → (List Node → Type 0) → List Node → List Node → Type 0
+LeadsTo make Wanted made rest = (groups : List (List Node)) → Groups rest groups → Wanted (made ++ map make groups)
+
+-- to the parents of the groups of some nodes
+abbrev pub MadeSoFar : (List Node → Node) → List Node → List Node → List Node → Type 0
+MadeSoFar make nodes made rest = LeadsTo make (AreParents make nodes) made rest

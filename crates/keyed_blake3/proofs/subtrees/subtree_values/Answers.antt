@@ -42,5 +42,6 @@ returns-clause-lanes g c = λ k n j m size few all is h.
     let whole : length c.args.chunks.now ≡ 1024 * (2 ^ k * g.row.L) = size ∙ ap (λ (i : ℕ). 1024 * (2 ^ k * i)) full in
     let len : length c.args.chunks.now / (1024 * g.row.L) ≡ 2 ^ k = len_of g.row.L (2 ^ k) (length c.args.chunks.now) (omega (arith, g.met.W.Width.lanes.0)) whole in
     let within : j < g.row.L = omega (arith, h, few) in
-    c.values_apart.ensures.lanes k j m len within is
-    ∙ ap (λ (x : ℕ). subtree_at c.args.key.now k (c.args.first + x) m) (c.starts.ensures j within ∙ ap (λ (x : ℕ). x * j) len)
+    let place : length c.args.chunks.now / (1024 * g.row.L) * j ≡ 2 ^ k * j = ap (λ (x : ℕ). x * j) len in
+    c.neighbour_values.ensures.lanes k j m len within is
+    ∙ ap (λ (x : ℕ). subtree_at c.args.key.now k (c.args.first + x) m) (omega (arith, place))

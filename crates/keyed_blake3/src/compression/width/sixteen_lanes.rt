@@ -2,11 +2,11 @@
 
 ghost use Rattle.std.proofs.Common.{rules};
 ghost use Rattle.std.specs.Prelude.{◌≡◌, ◌+◌, ◌++◌};
-ghost use Rattle.keyed_blake3.specs.Steps.Transposition.{by_turns, by_twos, picked, quarters};
+ghost use Rattle.keyed_blake3.specs.Steps.Transposition.{by_turns, by_twos, halves, picked, quarters};
 
 use crate::compression::states::rotated;
 use crate::compression::width::{
-    LaneBytes, Lanes, Sixteen, Width, byte_vector, bytes, lanes_of, vector,
+    Eight, LaneBytes, Lanes, Sixteen, Width, byte_vector, bytes, lanes_of, vector,
 };
 use std::simd::prelude::*;
 
@@ -57,6 +57,23 @@ fn quarters(a: u32x16, b: u32x16) -> (u32x16, u32x16)
         a.shuffle(
             b,
             [4, 5, 6, 7, 12, 13, 14, 15, 20, 21, 22, 23, 28, 29, 30, 31],
+        ),
+    )
+}
+
+// Returns the first halves of two vectors, and the last halves.
+#[inline(always)]
+fn halves(a: u32x16, b: u32x16) -> (u32x16, u32x16)
+    ensures { (result.0 ≡ picked halves (a ++ b)) × (result.1 ≡ picked (λ k. halves k + 8) (a ++ b)) }
+{
+    (
+        a.shuffle(
+            b,
+            [0, 1, 2, 3, 4, 5, 6, 7, 16, 17, 18, 19, 20, 21, 22, 23],
+        ),
+        a.shuffle(
+            b,
+            [8, 9, 10, 11, 12, 13, 14, 15, 24, 25, 26, 27, 28, 29, 30, 31],
         ),
     )
 }
@@ -117,19 +134,33 @@ impl Width<16, 64> for Sixteen {
 
     #[inline(always)]
     fn row(bytes: &[u8]) -> Lanes<16> {
-        lanes_of(u32x16::from_le_bytes(u8x64::from_slice(bytes)))
+        // Each half is a load of its own. So `halves` has none to take apart, and the second of two halves is loaded into its place.
+        let low = vector(&Eight::row(bytes));
+        let high = vector(&Eight::row(&bytes[32..]));
+        lanes_of(low.shuffle(
+            high,
+            [0, 1, 2, 3, 4, 5, 6, 7, 8, 9, 10, 11, 12, 13, 14, 15],
+        ))
     }
 
     #[inline(always)]
     fn transposed(rows: &[Lanes<16>; 16]) -> [Lanes<16>; 16] {
-        let (t0, t1) = by_turns(vector(&rows[0]), vector(&rows[1]));
-        let (t2, t3) = by_turns(vector(&rows[2]), vector(&rows[3]));
-        let (t4, t5) = by_turns(vector(&rows[4]), vector(&rows[5]));
-        let (t6, t7) = by_turns(vector(&rows[6]), vector(&rows[7]));
-        let (t8, t9) = by_turns(vector(&rows[8]), vector(&rows[9]));
-        let (t10, t11) = by_turns(vector(&rows[10]), vector(&rows[11]));
-        let (t12, t13) = by_turns(vector(&rows[12]), vector(&rows[13]));
-        let (t14, t15) = by_turns(vector(&rows[14]), vector(&rows[15]));
+        let (a0, b0) = halves(vector(&rows[0]), vector(&rows[4]));
+        let (a1, b1) = halves(vector(&rows[1]), vector(&rows[5]));
+        let (a2, b2) = halves(vector(&rows[2]), vector(&rows[6]));
+        let (a3, b3) = halves(vector(&rows[3]), vector(&rows[7]));
+        let (c0, d0) = halves(vector(&rows[8]), vector(&rows[12]));
+        let (c1, d1) = halves(vector(&rows[9]), vector(&rows[13]));
+        let (c2, d2) = halves(vector(&rows[10]), vector(&rows[14]));
+        let (c3, d3) = halves(vector(&rows[11]), vector(&rows[15]));
+        let (t0, t1) = by_turns(a0, a1);
+        let (t2, t3) = by_turns(a2, a3);
+        let (t4, t5) = by_turns(c0, c1);
+        let (t6, t7) = by_turns(c2, c3);
+        let (t8, t9) = by_turns(b0, b1);
+        let (t10, t11) = by_turns(b2, b3);
+        let (t12, t13) = by_turns(d0, d1);
+        let (t14, t15) = by_turns(d2, d3);
         let (u0, u1) = by_twos(t0, t2);
         let (u2, u3) = by_twos(t1, t3);
         let (u4, u5) = by_twos(t4, t6);
@@ -138,22 +169,14 @@ impl Width<16, 64> for Sixteen {
         let (u10, u11) = by_twos(t9, t11);
         let (u12, u13) = by_twos(t12, t14);
         let (u14, u15) = by_twos(t13, t15);
-        let (v0, w0) = quarters(u0, u4);
-        let (v1, w1) = quarters(u1, u5);
-        let (v2, w2) = quarters(u2, u6);
-        let (v3, w3) = quarters(u3, u7);
-        let (x0, y0) = quarters(u8, u12);
-        let (x1, y1) = quarters(u9, u13);
-        let (x2, y2) = quarters(u10, u14);
-        let (x3, y3) = quarters(u11, u15);
-        let (r0, r8) = quarters(v0, x0);
-        let (r1, r9) = quarters(v1, x1);
-        let (r2, r10) = quarters(v2, x2);
-        let (r3, r11) = quarters(v3, x3);
-        let (r4, r12) = quarters(w0, y0);
-        let (r5, r13) = quarters(w1, y1);
-        let (r6, r14) = quarters(w2, y2);
-        let (r7, r15) = quarters(w3, y3);
+        let (r0, r4) = quarters(u0, u4);
+        let (r1, r5) = quarters(u1, u5);
+        let (r2, r6) = quarters(u2, u6);
+        let (r3, r7) = quarters(u3, u7);
+        let (r8, r12) = quarters(u8, u12);
+        let (r9, r13) = quarters(u9, u13);
+        let (r10, r14) = quarters(u10, u14);
+        let (r11, r15) = quarters(u11, u15);
         [
             lanes_of(r0),
             lanes_of(r1),

@@ -5,6 +5,6 @@ use Rattle.xet_roots.proofs.aggregated_hashes.first_parents.Given as goal
 
 abbrev pub invariant-parents : goal.invariant-parents
 invariant-parents g l = record {
-  size : length l.parents ≡ 16;
+  size : length l.parents ≡ 64;
   each : (i : ℕ) → i < l.j → get_or l.parents i ([], 0) ≡ parent_by g.P.ParentMaker.hash_of (get_or (lent l.groups) i []);
 }

@@ -1,5 +1,5 @@
-use Rattle.std.proofs.Common.{◌≡◌, ℕ, ◌+◌, ◌∷◌, [], ◌++◌, List, drop, length, map, take, rules, tests, refl, sym, ap, ◌∙◌, arith, length-append, length-drop}
-use Rattle.std.proofs.lemmas.List.{length-take-le, nil_from_length}
+use Rattle.std.proofs.Common.{◌≡◌, ℕ, ◌∷◌, [], ◌++◌, List, drop, length, map, take, rules, tests, refl, sym, ap, ◌∙◌, arith, length-append, length-drop}
+use Rattle.std.proofs.lemmas.List.{nil_from_length}
 use Rattle.xet_roots.specs.Groups.{Node}
 use Rattle.xet_roots.specs.Roots.{parent_by}
 use Rattle.xet_roots.specs.Steps.Scan.{PushesParents}
@@ -22,20 +22,16 @@ batches-preserved g c =
     let made = c.batches.made.items in
     let rest = c.batches.rest.now in
     let inv = c.batches.invariant in
-    let e = c.first_parents-parents.ensures in
-    let first = c.first_parents-parents.result in
+    let e = c.in_ok-read.ensures in
+    let read : ℕ = c.in_ok-read.read in
     let groups = e.parents.0 in
-    let after : c.split_at.result.1.now ≡ drop first.2 rest = c.split_at.ensures.back in
-    let items : c.extend_from_slice.new.self.items ≡ made ++ take first.1 first.0 = c.in_ok-extend_from_slice.ensures.items in
-    let len : length c.extend_from_slice.new.self.items ≡ length made + first.1 =
-    ap length items ∙ length-append made (take first.1 first.0) ∙ ap (λ (n : ℕ). length made + n) (length-take-le first.1 first.0 (omega (arith, e.size, e.within.0))) in
-    let left = length-drop first.2 rest in
-    let few = inv.few in
+    let after : c.split_at.result.1.now ≡ drop read rest = c.split_at.ensures.back in
+    let left = length-drop read rest in
     record {
-      so_far = rw (after, items, e.parents.2) (LeadsTo-more make wanted made rest groups (drop first.2 rest) e.parents.1 inv.so_far);
-      fits = rw after (omega (arith, total_size-drop-le first.2 rest, inv.fits));
-      count = rw len (omega (arith, inv.count, e.count));
-      few = rw (len, after) (omega (arith, e.within.1, e.within.2));
+      so_far = rw (after, e.parents.2) (LeadsTo-more make wanted made rest groups (drop read rest) e.parents.1 inv.so_far);
+      fits = rw after (omega (arith, total_size-drop-le read rest, inv.fits));
+      count = omega (arith, inv.count, e.count);
+      few = rw after (omega (arith, inv.few, e.few, e.within.1));
     }
 
 pub groups-preserved : goal.groups-preserved

@@ -1,6 +1,6 @@
 use Rattle.std.proofs.Common.{◌≡◌, ◌+◌, ◌<◌, ◌≤◌, ◌^◌, length, map}
 use Rattle.xet_roots.specs.Roots.{total_size, parent_by}
-use Rattle.xet_roots.proofs.Roots.Making.{MadeSoFar}
+use Rattle.xet_roots.specs.Steps.Scan.{MadeSoFar}
 use Rattle.xet_roots.proofs.as_node.parents_of.Given as goal
 
 abbrev pub invariant-pieces : goal.invariant-pieces

@@ -1,18 +1,25 @@
-use Rattle.std.proofs.Common.{◌≡◌, ℕ, ◌<◌, ◌≤◌, [], drop, get_or, length}
-use Rattle.xet_roots.specs.Roots.{group_text}
+use Rattle.std.proofs.Common.{◌≡◌, ℕ, ◌<◌, [], get_or, length}
+use Rattle.xet_roots.specs.Steps.Places.{IsSettled}
 use Rattle.xet_roots.proofs.Lists.Lent.{lent}
 use Rattle.xet_roots.proofs.groups.parent_hashes.Given as goal
 
-abbrev pub invariant-written : goal.invariant-written
-invariant-written l = record {
-  written_size : length l.written ≡ 16;
-  starts_size : length l.starts ≡ 16;
-  within : (i : ℕ) → i < l.j → get_or l.starts i 0 ≤ 792;
-  text : (i : ℕ) → i < l.j → drop (get_or l.starts i 0) (get_or l.written i []) ≡ group_text (get_or (lent l.groups) i []);
+abbrev pub invariant-lens : goal.invariant-lens
+invariant-lens l = record {
+  sizes : (j : ℕ) → j < 16 → length (get_or l.slots j []) ≡ 1024;
+  size : length l.places ≡ 16;
+  room : l.count < 16;
+  places : (k : ℕ) → k < l.count → get_or l.places k 0 < length l.groups;
+  settled : (len k : ℕ) → len < l.len → k < get_or l.counts len 0
+      → IsSettled (lent l.groups) l.hashes l.places l.count (get_or (get_or l.lists len []) k 0);
 }
 
-abbrev pub invariant-texts : goal.invariant-texts
-invariant-texts l = record {
-  size : length l.texts ≡ 16;
-  text : (i : ℕ) → i < l.j → get_or (lent l.texts) i [] ≡ group_text (get_or (lent l.groups) i []);
+abbrev pub invariant-listed : goal.invariant-listed
+invariant-listed l = record {
+  sizes : (j : ℕ) → j < 16 → length (get_or l.slots j []) ≡ 1024;
+  size : length l.places ≡ 16;
+  room : l.count < 16;
+  places : (k : ℕ) → k < l.count → get_or l.places k 0 < length l.groups;
+  settled : (len k : ℕ) → len < l.len → k < get_or l.counts len 0
+      → IsSettled (lent l.groups) l.hashes l.places l.count (get_or (get_or l.lists len []) k 0);
+  here : (k : ℕ) → k < l.i → IsSettled (lent l.groups) l.hashes l.places l.count (get_or (get_or l.lists l.len []) k 0);
 }

@@ -1,12 +1,8 @@
-use Rattle.std.proofs.Common.{◌≡◌, ◌≤◌, ◌*◌, ◌++◌, length, drop}
+use Rattle.std.proofs.Common.{◌≡◌, ◌≤◌, ◌*◌, length, take}
 use Rattle.xet_roots.specs.Roots.{group_text}
 use Rattle.xet_roots.proofs.groups.write_text.Given as goal
 
--- the lines of the nodes that are left, before those that are written, are the text
+-- the lines of the nodes so far are written
 abbrev pub invariant-lines : goal.invariant-lines
 invariant-lines l =
-    (group_text l.rest ++ drop l.start l.text ≡ group_text l.group) × (88 * length l.rest ≤ l.start) × (l.start ≤ length l.text)
-    × (length l.text ≡ 792)
-
-abbrev pub decreases-lines : goal.decreases-lines
-decreases-lines l = length l.rest
+    (take l.end l.text ≡ group_text (take l.i l.group)) × (l.end ≤ 88 * l.i) × (length l.text ≡ 792)
