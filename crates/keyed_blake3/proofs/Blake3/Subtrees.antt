@@ -109,8 +109,8 @@ pub both_beside : (l : ℕ) (key : List ℕ) (first place size k : ℕ) (m : Lis
     → ((j : ℕ) → j < l → lane j right ≡ subtree_at key k (first + (place + size * l + size * j)) m)
     → (i : ℕ) → i < 2 * l → lane i (beside left right) ≡ subtree_at key k (first + (place + size * i)) m
 both_beside l key first place size k m left right size_l size_r full ls rs i h = elim (cases_lt i l) [
-    | inl less ↦ beside_left left right i size_l full less ∙ ls i less
-    | inr more ↦
+  | inl less ↦ beside_left left right i size_l full less ∙ ls i less
+  | inr more ↦
       let sum : size * l + size * (i - l) ≡ size * i = sym (mul-add size l (i - l)) ∙ ap (λ (n : ℕ). size * n) (omega (arith, more)) in
       beside_right left right i size_l size_r full more ∙ rs (i - l) (omega (arith, more, h))
       ∙ ap (λ (n : ℕ). subtree_at key k (first + n) m) (omega (arith, sum))

@@ -67,10 +67,7 @@ fn halves(a: u32x16, b: u32x16) -> (u32x16, u32x16)
     ensures { (result.0 ≡ picked halves (a ++ b)) × (result.1 ≡ picked (λ k. halves k + 8) (a ++ b)) }
 {
     (
-        a.shuffle(
-            b,
-            [0, 1, 2, 3, 4, 5, 6, 7, 16, 17, 18, 19, 20, 21, 22, 23],
-        ),
+        a.shuffle(b, [0, 1, 2, 3, 4, 5, 6, 7, 16, 17, 18, 19, 20, 21, 22, 23]),
         a.shuffle(
             b,
             [8, 9, 10, 11, 12, 13, 14, 15, 24, 25, 26, 27, 28, 29, 30, 31],
@@ -137,10 +134,7 @@ impl Width<16, 64> for Sixteen {
         // Each half is a load of its own. So `halves` has none to take apart, and the second of two halves is loaded into its place.
         let low = vector(&Eight::row(bytes));
         let high = vector(&Eight::row(&bytes[32..]));
-        lanes_of(low.shuffle(
-            high,
-            [0, 1, 2, 3, 4, 5, 6, 7, 8, 9, 10, 11, 12, 13, 14, 15],
-        ))
+        lanes_of(low.shuffle(high, [0, 1, 2, 3, 4, 5, 6, 7, 8, 9, 10, 11, 12, 13, 14, 15]))
     }
 
     #[inline(always)]
