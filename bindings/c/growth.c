@@ -8,8 +8,8 @@
  *   parents are made in their place.
  * - A subtree of random chunks keeps a few nodes a level. Without natural cuts it keeps all.
  * - A hash tree keeps all nodes of all levels.
- * - The JSON of a subtree is written to one text. Other JSON is read and written by way of a tree of values, with four requests for each
- *   node.
+ * - The JSON of a subtree is written to one text, and what was written so is read without a tree of values, and written again. Other JSON
+ *   is read and written by way of a tree of values, with four requests for each node.
  */
 #include "harness.h"
 
@@ -493,7 +493,7 @@ static const struct {
     {"merge_into of one cut", plain_and_cut, merge_into_twice, 0, 120},
     {"merge", singles, merge, 3, 540},
     {"to_json", text, to_json, 0, 160},
-    {"from_json", text, from_json, 5, 1800},
+    {"from_json", text, from_json, 0, 330},
     {"from_flat", flat, from_flat, 0, 120},
     {"hash_tree_from_chunks", nothing, tree, 0, 160},
     {"hash_tree_proof of one chunk", tree, proof_of_one_again, 0, 0},

@@ -66,10 +66,9 @@ fn meet() {
 
 // Whether threads of `hash_chunks` are held up in their requests.
 static ARE_HELD_UP: AtomicBool = AtomicBool::new(false);
-// How many chunks were read meanwhile.
-static READ_MEANWHILE: AtomicUsize = AtomicUsize::new(0);
-// No more may be read than this.
-const MOST_READ: usize = 100;
+// How many bytes a chunk has meanwhile, and how many buffers of that length there were.
+const HELD_LENGTH: usize = 4321;
+static BUFFERS: AtomicUsize = AtomicUsize::new(0);
 
 // Whether this is a thread of `hash_chunks`, by its name.
 fn hashes_chunks() -> bool {
@@ -80,12 +79,9 @@ fn hashes_chunks() -> bool {
     name.starts_with(b"yurewha\0")
 }
 
-// Holds a thread up until too many chunks were read, or half a second has passed.
+// Holds a thread up until half a second has passed.
 fn hold_up() {
-    let begun = Instant::now();
-    while READ_MEANWHILE.load(Ordering::SeqCst) <= MOST_READ && begun.elapsed() < Duration::from_millis(500) {
-        thread::yield_now();
-    }
+    thread::sleep(Duration::from_millis(500));
     ARE_HELD_UP.store(false, Ordering::SeqCst);
 }
 
@@ -94,6 +90,7 @@ fn is_refused(size: usize) -> bool {
     if ARE_HELD_UP.load(Ordering::SeqCst) && hashes_chunks() {
         hold_up();
     }
+    BUFFERS.fetch_add(usize::from(size == HELD_LENGTH), Ordering::SeqCst);
     let before = BEFORE_MEETING.get();
     BEFORE_MEETING.set(before.and_then(|before| before.checked_sub(1)));
     if before == Some(0) {
@@ -641,25 +638,25 @@ fn proofs_of_one_tree_are_made_at_once() {
 }
 
 #[test]
-fn chunks_wait_for_threads_that_hash_and_not_in_memory() {
-    let count = |length| {
-        READ_MEANWHILE.fetch_add(usize::from(ARE_HELD_UP.load(Ordering::SeqCst)), Ordering::SeqCst);
-        length
-    };
-    for (threads, most) in [(1, 3), (3, 7), (1 << 20, MOST_READ)] {
-        READ_MEANWHILE.store(0, Ordering::SeqCst);
+fn buffers_are_two_for_each_other_thread_and_one() {
+    for (threads, most) in [(1, 1), (2, 3), (3, 5)] {
+        BUFFERS.store(0, Ordering::SeqCst);
         ARE_HELD_UP.store(true, Ordering::SeqCst);
-        let lengths = [10; 50].into_iter().map(count);
-        let chunks = own::hash_chunks(io::repeat(0), lengths, NonZeroUsize::new(threads).unwrap()).unwrap();
-        assert_eq!(chunks, [(compute_data_hash(&[0; 10]), 10); 50]);
-        assert!(!ARE_HELD_UP.load(Ordering::SeqCst), "no thread was held up");
-        // As many are hashed as there are threads, as many wait, and one is read.
-        let read = READ_MEANWHILE.load(Ordering::SeqCst);
-        assert!((1..=most).contains(&read), "{read}");
+        let chunks = own::hash_chunks(io::repeat(0), [HELD_LENGTH; 50], NonZeroUsize::new(threads).unwrap()).unwrap();
+        let node = (compute_data_hash(&[0; HELD_LENGTH]), HELD_LENGTH as u64);
+        assert_eq!(chunks, [node; 50]);
+        assert_eq!(
+            ARE_HELD_UP.swap(false, Ordering::SeqCst),
+            threads == 1,
+            "no other thread hashed"
+        );
+        // Each other thread hashes one, as many wait, and this one has one.
+        let buffers = BUFFERS.load(Ordering::SeqCst);
+        assert!((1..=most).contains(&buffers), "{buffers}");
     }
 }
 
-// This thread reads the chunks. It makes few requests beside those for their data: for the threads, and for what it returns.
+// It makes few requests beside those for the data: for what it returns.
 #[test]
 fn buffers_of_chunks_are_used_again_unless_they_are_long() {
     let hashed = |length: usize, count: usize| {

@@ -3,6 +3,7 @@ pub mod Faults
 pub mod Following
 pub mod HexText
 pub mod OneMeaning
+pub mod ReadBack
 pub mod JsonValues
 pub mod Rising
 pub mod Runs

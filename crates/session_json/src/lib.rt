@@ -6,5 +6,6 @@ pub mod laws;
 mod lists;
 mod pieces;
 pub mod reading;
+pub mod reading_back;
 pub mod subtree_text;
 pub mod writing;

@@ -1,8 +1,10 @@
-//! Sessions as JSON texts: those of `tests/vectors/session_json.json`, which the model makes.
+//! Sessions as JSON texts: those of `tests/vectors/session_json.json`, which the model makes. And texts of subtrees.
 
 use crate::sessions::{nodes, to_number};
 use session_json::fault::SessionTextFault;
 use session_json::reading::read_session;
+use session_json::reading_back::read_back;
+use session_json::subtree_text::subtree_text;
 use session_json::writing::{session_text, write_session};
 use std::alloc::Global;
 use std::process::Abort;
@@ -109,4 +111,54 @@ fn texts_of_no_session_have_the_lowest_fault(rt: HostRuntime) {
             .expect(&rt, "memory");
     }
     assert!(rt; read_session(rt.alloc(), &text, true).err() == Some(SessionTextFault::Rule(6)));
+}
+
+// Texts of subtrees as `subtree_text` writes them.
+const WRITTEN: &str =
+    "{\"at_end\":false,\"at_start\":false,\"levels\":[[1,0]],\"nodes\":[{\"hash\":\"cfc5d07f6f03c29bbf424132963fe08d19a37d5757aaf520bf08119f05cd56d6\",\"size\":100}]}
+{\"at_end\":false,\"at_start\":false,\"levels\":[[2,0]],\"nodes\":[{\"hash\":\"c3e67584b5c4fc2a89837ec39e40f2c8a6bb0b2987ac94cd4b31e5fbdd210a72\",\"size\":200},{\"hash\":\"0d2beb91b9196929a5ddec9f6e306924ddf4a24268e3e59fd8464738d525af37\",\"size\":300}]}
+{\"at_end\":false,\"at_start\":false,\"levels\":[[0,0]],\"nodes\":[]}
+{\"at_end\":true,\"at_start\":true,\"levels\":[[1,0]],\"nodes\":[{\"hash\":\"cfc5d07f6f03c29bbf424132963fe08d19a37d5757aaf520bf08119f05cd56d6\",\"size\":100}]}
+{\"at_end\":true,\"at_start\":true,\"levels\":[[0,0]],\"nodes\":[]}
+{\"at_end\":false,\"at_start\":false,\"levels\":[[1,0]],\"nodes\":[{\"hash\":\"cfc5d07f6f03c29bbf424132963fe08d19a37d5757aaf520bf08119f05cd56d6\",\"size\":18446744073709551615}]}
+{\"at_end\":false,\"at_start\":false,\"levels\":[[1,0]],\"nodes\":[{\"hash\":\"cfc5d07f6f03c29bbf424132963fe08d19a37d5757aaf520bf08119f05cd56d6\",\"size\":0}]}";
+
+// Texts that say the same in other words, or say no subtree.
+const OTHERS: &str =
+    "{\"at_end\":false,\"at_start\":false,\"levels\":[[1,0]],\"nodes\":[{\"hash\":\"cfc5d07f6f03c29bbf424132963fe08d19a37d5757aaf520bf08119f05cd56d6\",\"size\":100}]} 
+{\"at_end\":false,\"at_start\":false,\"levels\":[[1,0]],\"nodes\":[{\"hash\":\"cfc5d07f6f03c29bbf424132963fe08d19a37d5757aaf520bf08119f05cd56d6\",\"size\":100}]}}
+{\"at_end\":false,\"at_start\":false,\"levels\":[[1,0]],\"nodes\":[{\"hash\":\"cfc5d07f6f03c29bbf424132963fe08d19a37d5757aaf520bf08119f05cd56d6\",\"size\": 100}]}
+{\"at_start\":false,\"at_end\":false,\"levels\":[[1,0]],\"nodes\":[{\"hash\":\"cfc5d07f6f03c29bbf424132963fe08d19a37d5757aaf520bf08119f05cd56d6\",\"size\":100}]}
+{\"at_end\":false,\"at_start\":false,\"levels\":[[1,0]],\"nodes\":[{\"hash\":\"CFC5D07F6F03C29BBF424132963FE08D19A37D5757AAF520BF08119F05CD56D6\",\"size\":100}]}
+{\"at_end\":false,\"at_start\":false,\"levels\":[[1,0]],\"nodes\":[{\"hash\":\"cfc5d07f6f03c29bbf424132963fe08d19a37d5757aaf520bf08119f05cd56d\",\"size\":100}]}
+{\"at_end\":false,\"at_start\":false,\"levels\":[[1,0]],\"nodes\":[{\"hash\":\"cfc5d07f6f03c29bbf424132963fe08d19a37d5757aaf520bf08119f05cd56dg\",\"size\":100}]}
+{\"at_end\":false,\"at_start\":false,\"levels\":[[1,0]],\"nodes\":[{\"hash\":\"cfc5d07f6f03c29bbf424132963fe08d19a37d5757aaf520bf08119f05cd56d6\",\"size\":0100}]}
+{\"at_end\":false,\"at_start\":false,\"levels\":[[1,0]],\"nodes\":[{\"hash\":\"cfc5d07f6f03c29bbf424132963fe08d19a37d5757aaf520bf08119f05cd56d6\",\"size\":18446744073709551616}]}
+{\"at_end\":false,\"at_start\":false,\"levels\":[[1,0]],\"nodes\":[{\"hash\":\"cfc5d07f6f03c29bbf424132963fe08d19a37d5757aaf520bf08119f05cd56d6\",\"size\":}]}
+{\"at_end\":false,\"at_start\":false,\"levels\":[[1,0]],\"nodes\":[{\"hash\":\"cfc5d07f6f03c29bbf424132963fe08d19a37d5757aaf520bf08119f05cd56d6\",\"size\":1e2}]}
+{\"at_end\":null,\"at_start\":false,\"levels\":[[1,0]],\"nodes\":[{\"hash\":\"cfc5d07f6f03c29bbf424132963fe08d19a37d5757aaf520bf08119f05cd56d6\",\"size\":100}]}
+{\"at_end\":false,\"at_start\":false,\"levels\":[],\"nodes\":[{\"hash\":\"cfc5d07f6f03c29bbf424132963fe08d19a37d5757aaf520bf08119f05cd56d6\",\"size\":100}]}
+{\"at_end\":false,\"at_start\":false,\"levels\":[[1]],\"nodes\":[{\"hash\":\"cfc5d07f6f03c29bbf424132963fe08d19a37d5757aaf520bf08119f05cd56d6\",\"size\":100}]}
+{\"at_end\":false,\"at_start\":false,\"levels\":[[1,0],],\"nodes\":[{\"hash\":\"cfc5d07f6f03c29bbf424132963fe08d19a37d5757aaf520bf08119f05cd56d6\",\"size\":100}]}
+{\"at_end\":true,\"at_start\":false,\"levels\":[[0,1]],\"nodes\":[{\"hash\":\"cfc5d07f6f03c29bbf424132963fe08d19a37d5757aaf520bf08119f05cd56d6\",\"size\":100}]}
+{\"at_end\":false,\"at_start\":false,\"levels\":[[2,0]],\"nodes\":[{\"hash\":\"cfc5d07f6f03c29bbf424132963fe08d19a37d5757aaf520bf08119f05cd56d6\",\"size\":100}]}
+{\"at_end\":false,\"at_start\":false,\"levels\":[[18446744073709551616,0]],\"nodes\":[{\"hash\":\"cfc5d07f6f03c29bbf424132963fe08d19a37d5757aaf520bf08119f05cd56d6\",\"size\":100}]}
+{\"at_end\":false,\"at_start\":false,\"levels\":[[1,0]],\"nodes\":[]}
+{\"at_end\":false,\"at_start\":false,\"levels\":[[1,0]],\"nodes\":[{\"hash\":\"cfc5d07f6f03c29bbf424132963fe08d19a37d5757aaf520bf08119f05cd56d6\",\"size\":100},]}
+{\"at_end\":false,\"at_start\":false,\"levels\":[[1,0]],\"nodes\":[{\"size\":100,\"hash\":\"cfc5d07f6f03c29bbf424132963fe08d19a37d5757aaf520bf08119f05cd56d6\"}]}
+{\"at_end\":false,\"at_start\":false,\"levels\":[[1,0]],\"nodes\":[{\"hash\":\"cfc5d07f6f03c29bbf424132963fe08d19a37d5757aaf520bf08119f05cd56d6\",\"size\":100}]
+{\"at_end\":false,\"at_start\":false,\"levels\":[[1,0]],\"nodes\":[{\"hash\":\"cf
+{
+";
+
+#[test]
+fn subtrees_are_read_back_from_what_was_written_alone(rt: HostRuntime) {
+    for text in WRITTEN.lines() {
+        let subtree = read_back(rt.alloc(), text.as_bytes()).expect(&rt, "a subtree");
+        let again = subtree_text(rt.alloc(), &subtree).expect(&rt, "memory");
+        assert!(rt; again.as_slice() == text.as_bytes(), "{text}");
+    }
+    for text in OTHERS.lines() {
+        assert!(rt; read_back(rt.alloc(), text.as_bytes()).is_none(), "{text}");
+    }
 }

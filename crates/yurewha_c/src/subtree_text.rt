@@ -11,6 +11,7 @@ use crate::status::{DONE, EMPTY_HANDLE, MEMORY, ROOM, RULE, TEXT, status_of};
 use crate::subtree_handle::SubtreeHandle;
 use crate::text::write_text;
 use serde_json::Value;
+use session_json::reading_back::read_back;
 use session_json::subtree_text::subtree_text;
 use std::alloc::Global;
 use xet_merkle::merkle_hash_subtree::MerkleHashSubtree;
@@ -91,6 +92,9 @@ pub extern "C" fn yurewha_subtree_from_json(
         × (json : Data) × IsUtf8 text.now × (read text.now ≡ Some json) × BreaksRule json rule))) }
     ensures unchanged { result ≢ DONE → subtree.new.value ≡ subtree.old.value }
 {
+    if let Some(made) = read_back(alloc, text) {
+        return subtree.hold(alloc, made);
+    }
     let value = match Value::from_slice(alloc, text) {
         Ok(value) => value,
         Err(error) => return if error.is_memory() { MEMORY } else { TEXT },

@@ -11,9 +11,6 @@ use std::thread;
 // The name of the threads, as debuggers show it.
 const NAME: &str = "yurewha";
 
-// How many chunks wait at most for a thread that hashes them, whatever number of threads is given.
-const MOST_WAITING: usize = 64;
-
 // How much room a chunk gets before any of it has come.
 const FIRST_ROOM: usize = 1 << 16;
 
@@ -29,7 +26,6 @@ type Chunk = (usize, Vec<u8>, usize);
 struct Queue {
     waiting: Mutex<Waiting>,
     has_come: Condvar,
-    has_gone: Condvar,
 }
 
 #[derive(Default)]
@@ -41,15 +37,16 @@ struct Waiting {
 }
 
 impl Queue {
-    // Puts a chunk in as soon as fewer than `most` wait.
-    fn put(&self, chunk: Chunk, most: usize) {
+    // Puts a chunk in, or returns it if `most` chunks wait already.
+    fn put(&self, chunk: Chunk, most: usize) -> Option<Chunk> {
         let mut waiting = self.locked();
-        while waiting.chunks.len() >= most {
-            waiting = unpoisoned(self.has_gone.wait(waiting));
+        if waiting.chunks.len() >= most {
+            return Some(chunk);
         }
         waiting.chunks.push_back(chunk);
         drop(waiting);
         self.has_come.notify_one();
+        None
     }
 
     // Takes the next chunk out as soon as there is one, or returns `None` once the queue is closed.
@@ -57,8 +54,6 @@ impl Queue {
         let mut waiting = self.locked();
         loop {
             if let Some(chunk) = waiting.chunks.pop_front() {
-                drop(waiting);
-                self.has_gone.notify_one();
                 return Some(chunk);
             }
             if waiting.is_closed {
@@ -82,6 +77,22 @@ impl Queue {
         self.locked().spare.pop().unwrap_or_default()
     }
 
+    // Returns the number of a chunk, and its node.
+    fn hash(&self, (number, data, length): Chunk) -> (usize, Node) {
+        let hash = compute_data_hash(&data[..length]);
+        self.keep(data);
+        (number, (hash, length as u64))
+    }
+
+    // Hashes chunks until the queue is closed.
+    fn hash_each(&self) -> Vec<(usize, Node)> {
+        let mut hashed = Vec::new();
+        while let Some(chunk) = self.next() {
+            hashed.push(self.hash(chunk));
+        }
+        hashed
+    }
+
     fn locked(&self) -> MutexGuard<'_, Waiting> {
         unpoisoned(self.waiting.lock())
     }
@@ -103,8 +114,9 @@ fn unpoisoned<T>(locked: Result<T, PoisonError<T>>) -> T {
 }
 
 /// Reads chunks of these lengths, one after another, and hashes them on the given number of threads, but on no more threads
-/// than there are chunks. The calling thread reads meanwhile, at most one chunk ahead for each thread. What it returns is in the order of the reader, and
-/// [`file_hash`](crate::merklehash::file_hash) or [`xorb_hash`](crate::merklehash::xorb_hash) takes it.
+/// than there are chunks. The calling thread is one of them. It reads, and while as many chunks wait as there are other threads, it
+/// hashes the next one itself. What is returned is in the order of the reader, and [`file_hash`](crate::merklehash::file_hash) or
+/// [`xorb_hash`](crate::merklehash::xorb_hash) takes it.
 ///
 /// Nothing here cuts chunks: the lengths are those of a Xet client's chunks. What comes after the last chunk isn't read.
 /// Memory grows with the data that comes, not with a length that is only claimed. Buffers of at most a MiB are used again for later
@@ -133,23 +145,25 @@ pub fn hash_chunks(
     lengths: impl IntoIterator<Item = usize>,
     threads: NonZeroUsize,
 ) -> io::Result<Vec<Node>> {
-    let (queue, most) = (Queue::default(), threads.get().min(MOST_WAITING));
+    let (queue, others) = (Queue::default(), threads.get() - 1);
     let mut hashed = thread::scope(|scope| {
         let closing = Closing(&queue);
         let named = || thread::Builder::new().name(NAME.to_owned());
-        let mut workers = Vec::new();
+        let (mut workers, mut hashed) = (Vec::new(), Vec::new());
         for chunk in chunks_of(reader, lengths, &queue) {
             let chunk = chunk?;
-            if workers.len() < threads.get() {
-                workers.push(named().spawn_scoped(scope, || hash_each(&queue))?);
+            if workers.len() < others.min(chunk.0) {
+                workers.push(named().spawn_scoped(scope, || queue.hash_each())?);
             }
-            queue.put(chunk, most);
+            let refused = queue.put(chunk, workers.len());
+            hashed.extend(refused.map(|chunk| queue.hash(chunk)));
         }
         drop(closing);
-        let parts = workers
-            .into_iter()
-            .map(|worker| worker.join().expect("hashing panics nowhere"));
-        Ok::<_, io::Error>(parts.flatten().collect::<Vec<_>>())
+        hashed.extend(queue.hash_each());
+        for worker in workers {
+            hashed.extend(worker.join().expect("hashing panics nowhere"));
+        }
+        Ok::<_, io::Error>(hashed)
     })?;
     hashed.sort_unstable_by_key(|(number, _)| *number);
     Ok(hashed.into_iter().map(|(_, node)| node).collect())
@@ -199,14 +213,4 @@ fn filled(reader: &mut impl Read, data: &mut Vec<u8>, length: usize) -> io::Resu
         }
     }
     Ok(count)
-}
-
-// Hashes chunks until the queue is closed.
-fn hash_each(queue: &Queue) -> Vec<(usize, Node)> {
-    let mut hashed = Vec::new();
-    while let Some((number, data, length)) = queue.next() {
-        hashed.push((number, (compute_data_hash(&data[..length]), length as u64)));
-        queue.keep(data);
-    }
-    hashed
 }

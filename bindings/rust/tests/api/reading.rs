@@ -87,7 +87,8 @@ impl Read for Counting {
 fn so_many_threads_hash_as_are_asked_for() {
     let mut reader = Counting(0);
     hash_chunks(&mut reader, [10; 200], threads(100)).unwrap();
-    assert!(reader.0 >= 100, "{}", reader.0);
+    // This thread is the hundredth.
+    assert!(reader.0 >= 99, "{}", reader.0);
 }
 
 #[test]

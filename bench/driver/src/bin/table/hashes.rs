@@ -32,11 +32,11 @@ const LENGTHS: [(&str, usize); 8] = [
 ];
 
 /// More bytes than any cache holds. In them the chunks of an upload follow each other.
-const COLD_BYTES: usize = 128 << 20;
+pub const COLD_BYTES: usize = 128 << 20;
 
 /// Where chunks begin and end that follow each other in so many bytes. Their lengths are those of the store: 8 KiB and a random
 /// number of bytes, 56 KiB on average and with exponential distribution, but at most 128 KiB in all.
-fn chunk_places(bytes: usize) -> Vec<Range<usize>> {
+pub fn chunk_places(bytes: usize) -> Vec<Range<usize>> {
     let mut draws = Draws(1);
     let mut places = Vec::new();
     let mut start = 0;

@@ -8,6 +8,7 @@ mod merging;
 mod programs;
 mod roots;
 mod sessions;
+mod threads;
 
 use driver::drawn::{self, Cuts};
 use driver::plain;
@@ -32,6 +33,7 @@ fn main() {
         "roots" => roots::print(),
         "merging" => merging::print(),
         "sessions" => sessions::print(),
+        "threads" => threads::print(),
         "programs" => programs::print(),
         "kept" => kept::print(),
         _ => panic!("no part of the tables: `{part}`"),
