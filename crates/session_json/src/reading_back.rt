@@ -1,6 +1,6 @@
 //! Reads back the JSON text of a subtree that [`subtree_text`] wrote, without a tree of values.
 
-ghost use Rattle.std.specs.Prelude.{◌≡◌, IfSome, IsUtf8, Some, []};
+ghost use Rattle.std.specs.Prelude.{◌≡◌, IfOk, IfSome, IsUtf8, Some, []};
 ghost use Rattle.std.specs.List.{AllByRecursion};
 ghost use Rattle.serde_json.specs.Data.{Data};
 ghost use Rattle.serde_json.specs.Read.{read};
@@ -10,11 +10,12 @@ ghost use Rattle.subtree_levels.specs.WellFormed.{IsWellFormed};
 ghost use Rattle.xet_merkle.specs.JsonRules.{Reads};
 
 use crate::subtree_text::subtree_text;
-use std::alloc::Global;
+use std::alloc::{AllocError, Global};
 use xet_hash::data_hash::DataHash;
 use xet_hash::laws::{hex_text_is_lowercase_digits, hex_text_tells_hashes_apart};
 use xet_merkle::merkle_hash_subtree::MerkleHashSubtree;
 use xet_roots::aggregated_hashes::Node;
+use xet_roots::error::CoreError;
 
 // The least that the text of a node takes, in bytes.
 const LEAST_PER_NODE: usize = 85;
@@ -76,16 +77,21 @@ impl Rest<'_> {
     }
 
     // Reads the counts of all levels, to the end of their array.
-    fn counts(&mut self, alloc: Global) -> Option<Vec<(usize, usize)>> {
+    fn counts(&mut self, alloc: Global) -> Result<Option<Vec<(usize, usize)>>, AllocError> {
         let mut counts = Vec::new(alloc);
         'levels: for _ in 0..self.text.len() {
-            counts.push(self.count()?).ok()?;
+            let Some(count) = self.count() else {
+                return Ok(None);
+            };
+            counts.push(count)?;
             if self.bytes(b",").is_none() {
                 break 'levels;
             }
         }
-        self.bytes(b"]")?;
-        Some(counts)
+        if self.bytes(b"]").is_none() {
+            return Ok(None);
+        }
+        Ok(Some(counts))
     }
 
     // Reads a node.
@@ -101,57 +107,82 @@ impl Rest<'_> {
     }
 
     // Reads nodes to the end of their array.
-    fn nodes(&mut self, alloc: Global) -> Option<Vec<Node>>
-        ensures { IfSome result (λ nodes. AllByRecursion (λ node. IsHash node.0) nodes.items) }
+    fn nodes(&mut self, alloc: Global) -> Result<Option<Vec<Node>>, AllocError>
+        ensures { IfOk result (λ read. IfSome read (λ nodes. AllByRecursion (λ node. IsHash node.0) nodes.items)) }
     {
         let most = self.text.len() / LEAST_PER_NODE;
-        let mut nodes = Vec::with_capacity(alloc, most).ok()?;
+        let mut nodes = Vec::with_capacity(alloc, most)?;
         if self.bytes(b"]").is_some() {
-            return Some(nodes);
+            return Ok(Some(nodes));
         }
         'nodes: for _ in 0..most {
-            nodes.push(self.node()?).ok()?;
+            let Some(node) = self.node() else {
+                return Ok(None);
+            };
+            nodes.push(node)?;
             if self.bytes(b",").is_none() {
                 break 'nodes;
             }
         }
-        self.bytes(b"]")?;
-        Some(nodes)
+        if self.bytes(b"]").is_none() {
+            return Ok(None);
+        }
+        Ok(Some(nodes))
     }
 
-    // Reads a subtree from a text that may be the one of a subtree.
-    fn subtree(&mut self, alloc: Global) -> Option<MerkleHashSubtree>
-        ensures well_formed { IfSome result IsWellFormed }
-        ensures hashes { IfSome result (λ subtree. AllByRecursion (λ node. IsHash node.0) (flat_nodes subtree.levels [])) }
-    {
+    // Reads the marks at the end and at the start, and what stands around them.
+    fn marks(&mut self) -> Option<(bool, bool)> {
         self.bytes(b"{\"at_end\":")?;
         let at_end = self.truth()?;
         self.bytes(b",\"at_start\":")?;
         let at_start = self.truth()?;
         self.bytes(b",\"levels\":[")?;
-        let counts = self.counts(alloc)?;
-        self.bytes(b",\"nodes\":[")?;
-        let nodes = self.nodes(alloc)?;
-        MerkleHashSubtree::from_flat(alloc, at_start, counts, nodes, at_end).ok()
+        Some((at_end, at_start))
+    }
+
+    // Reads a subtree from a text that may be the one of a subtree.
+    fn subtree(&mut self, alloc: Global) -> Result<Option<MerkleHashSubtree>, AllocError>
+        ensures well_formed { IfOk result (λ read. IfSome read IsWellFormed) }
+        ensures hashes { IfOk result (λ read. IfSome read (λ subtree.
+            AllByRecursion (λ node. IsHash node.0) (flat_nodes subtree.levels []))) }
+    {
+        let Some((at_end, at_start)) = self.marks() else {
+            return Ok(None);
+        };
+        let Some(counts) = self.counts(alloc)? else {
+            return Ok(None);
+        };
+        if self.bytes(b",\"nodes\":[").is_none() {
+            return Ok(None);
+        }
+        let Some(nodes) = self.nodes(alloc)? else {
+            return Ok(None);
+        };
+        match MerkleHashSubtree::from_flat(alloc, at_start, counts, nodes, at_end) {
+            Ok(subtree) => Ok(Some(subtree)),
+            Err(CoreError::OutOfMemory) => Err(AllocError),
+            Err(_) => Ok(None),
+        }
     }
 }
 
 /// Returns the subtree whose [`subtree_text`] the text is, byte for byte. Returns `None` for each other text, also if it
-/// says a subtree in other words, and if an allocation fails.
+/// says a subtree in other words. Fails if an allocation fails.
 ///
 /// Nothing that was read needs to be trusted, because the subtree is written again and compared with the text.
-pub fn read_back(alloc: Global, text: &[u8]) -> Option<MerkleHashSubtree>
-    ensures { IfSome result (λ subtree. (json : Data) × IsUtf8 text.now × (read text.now ≡ Some json) × Reads json subtree) }
+pub fn read_back(alloc: Global, text: &[u8]) -> Result<Option<MerkleHashSubtree>, AllocError>
+    ensures { IfOk result (λ read_back. IfSome read_back (λ subtree.
+        (json : Data) × IsUtf8 text.now × (read text.now ≡ Some json) × Reads json subtree)) }
 {
-    let subtree = Rest { text }.subtree(alloc)?;
-    let Ok(again) = subtree_text(alloc, &subtree) else {
-        return None;
+    let Some(subtree) = Rest { text }.subtree(alloc)? else {
+        return Ok(None);
     };
+    let again = subtree_text(alloc, &subtree)?;
     if again.as_slice() != text {
-        return None;
+        return Ok(None);
     }
     // Laws of hex texts: the JSON value of a subtree says it.
     hex_text_is_lowercase_digits();
     hex_text_tells_hashes_apart();
-    Some(subtree)
+    Ok(Some(subtree))
 }

@@ -154,11 +154,18 @@ const OTHERS: &str =
 #[test]
 fn subtrees_are_read_back_from_what_was_written_alone(rt: HostRuntime) {
     for text in WRITTEN.lines() {
-        let subtree = read_back(rt.alloc(), text.as_bytes()).expect(&rt, "a subtree");
+        let subtree = read_back(rt.alloc(), text.as_bytes())
+            .expect(&rt, "memory")
+            .expect(&rt, "a subtree");
         let again = subtree_text(rt.alloc(), &subtree).expect(&rt, "memory");
         assert!(rt; again.as_slice() == text.as_bytes(), "{text}");
     }
     for text in OTHERS.lines() {
-        assert!(rt; read_back(rt.alloc(), text.as_bytes()).is_none(), "{text}");
+        assert!(rt;
+            read_back(rt.alloc(), text.as_bytes())
+                .expect(&rt, "memory")
+                .is_none(),
+            "{text}"
+        );
     }
 }

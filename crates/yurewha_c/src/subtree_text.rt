@@ -92,8 +92,10 @@ pub extern "C" fn yurewha_subtree_from_json(
         × (json : Data) × IsUtf8 text.now × (read text.now ≡ Some json) × BreaksRule json rule))) }
     ensures unchanged { result ≢ DONE → subtree.new.value ≡ subtree.old.value }
 {
-    if let Some(made) = read_back(alloc, text) {
-        return subtree.hold(alloc, made);
+    match read_back(alloc, text) {
+        Ok(Some(made)) => return subtree.hold(alloc, made),
+        Ok(None) => {}
+        Err(_) => return MEMORY,
     }
     let value = match Value::from_slice(alloc, text) {
         Ok(value) => value,
