@@ -139,7 +139,7 @@ fn a_reader_that_panics_leaves_no_thread_waiting() {
             panic!("by a reader")
         }
     }
-    let reader = (&b"a chunk"[..]).chain(Panicking);
-    let caught = std::panic::catch_unwind(|| hash_chunks(reader, [7, 7], threads(2)));
+    let reader = (&b"a chunkanother"[..]).chain(Panicking);
+    let caught = std::panic::catch_unwind(|| hash_chunks(reader, [7, 7, 7], threads(2)));
     assert_eq!(caught.unwrap_err().downcast_ref(), Some(&"by a reader"));
 }
