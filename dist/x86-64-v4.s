@@ -1,5 +1,5 @@
 /* Yurewha 1.1.0 for x86-64-v4: the kernels of the proved library, as the toolchain compiles it. Made by dist/make, not by hand.
-   The sum of its sources: 7412d817376d71725df00284c7e86fd83307517a82db5aabf273e834b44df1e9 */
+   The sum of its sources: 8a86308c374f1d6c172f713181c0d41919f4c4c4a826d73ca4d3975de209c416 */
 	.section	.note.gnu.property,"a",@note
 	.p2align	3, 0x0
 	.long	4, 16, 5

@@ -1,5 +1,5 @@
 /* Yurewha 1.1.0 for windows-x86-64: the proved program xetrange, as the toolchain compiles it. Made by dist/make, not by hand.
-   The sum of its sources: b327cb9834d02336226317cd1ef72bb11620432d4bf77b659374d1c0a9905fe0 */
+   The sum of its sources: 5ed5bac01c647b038e03fcf50fa8c8342f44d87fc017dd58ba2092b7e913c042 */
 	.section	.text
 	.p2align	4
 	.def	"std_alloc::vec::Vec::grow_amortized::<#412ca8a416375360>";

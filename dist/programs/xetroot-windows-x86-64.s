@@ -1,5 +1,5 @@
 /* Yurewha 1.1.0 for windows-x86-64: the proved program xetroot, as the toolchain compiles it. Made by dist/make, not by hand.
-   The sum of its sources: a2b506e8f43d5647c08b82793527d9aa053ec9ffc3f9798db8f14064c6ff50d9 */
+   The sum of its sources: 3ddee76cfd88546f5ecad04c78920008ba11c8799eeff002f7eef28bfcadfc39 */
 	.section	.text
 	.p2align	4
 	.def	"std_alloc::vec::Vec::grow_amortized::<#bc82ad78765e08fe>";
