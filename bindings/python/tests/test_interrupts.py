@@ -48,7 +48,7 @@ def seconds(call, after):
 
     gc.collect()
     gc.disable()
-    before = signal.signal(signal.SIGALRM, handler)
+    signal.signal(signal.SIGALRM, handler)
     begun = time.perf_counter()
     try:
         signal.setitimer(signal.ITIMER_REAL, after)
@@ -58,8 +58,9 @@ def seconds(call, after):
         ended = True
     finally:
         took = time.perf_counter() - begun
+        # A thread that begins late may yet start the timer again.
+        signal.signal(signal.SIGALRM, signal.SIG_IGN)
         signal.setitimer(signal.ITIMER_REAL, 0)
-        signal.signal(signal.SIGALRM, before)
         gc.enable()
     return took, ended
 
