@@ -17,6 +17,8 @@ const INTERNAL_KEY: [u8; 32] = [
     99, 82, 230, 74, 83, 113, 63,
 ];
 
+const SYMBOLS: &[u8; 64] = b"ABCDEFGHIJKLMNOPQRSTUVWXYZabcdefghijklmnopqrstuvwxyz0123456789-_";
+
 /// Adds a node's line to the text of a group.
 pub type WriteLine = fn(&mut String, &Node);
 
@@ -71,6 +73,19 @@ pub fn hex_digits(hash: &Hash) -> [u8; 64] {
     let mut digits = [0; 64];
     hex::encode_to_slice(bytes, &mut digits).expect("64 digits");
     digits
+}
+
+/// The URL-safe base64 text without padding, by a table of symbols.
+pub fn base64_text(hash: &Hash) -> String {
+    let bytes: Vec<u8> = hash.iter().flat_map(|word| word.to_le_bytes()).collect();
+    let mut text = String::with_capacity(43);
+    for group in bytes.chunks(3) {
+        let bits = group.iter().fold(0, |bits, &byte| bits << 8 | u32::from(byte)) << (8 * (3 - group.len()));
+        for symbol in 0..=group.len() {
+            text.push(char::from(SYMBOLS[(bits >> (18 - 6 * symbol) & 63) as usize]));
+        }
+    }
+    text
 }
 
 /// The hash of a hex text, by the crate `hex`.

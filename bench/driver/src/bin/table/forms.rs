@@ -1,8 +1,8 @@
 //! What a Rust client does with hashes and subtrees without the library, or by serde: beside plain structs with derives,
-//! and texts by `format!` and `from_str_radix`.
+//! and texts by `format!`, `from_str_radix` and a table of symbols.
 
 use driver::drawn::Cuts;
-use driver::plain::Hash;
+use driver::plain::{self, Hash};
 use driver::rows::{Row, Task, HEAD};
 use serde::{Deserialize, Serialize};
 use std::collections::HashMap;
@@ -10,14 +10,14 @@ use std::hash::{BuildHasherDefault, Hasher};
 use std::hint::black_box;
 use yurewha::merklehash::{MerkleHash, MerkleHashSubtree, PassThroughHashMap};
 
-#[derive(Serialize, Deserialize)]
+#[derive(Clone, Serialize, Deserialize)]
 struct PlainNode {
     #[serde(with = "formatted")]
     hash: Hash,
     size: u64,
 }
 
-#[derive(Serialize, Deserialize)]
+#[derive(Clone, Serialize, Deserialize)]
 struct PlainSubtree {
     nodes: Vec<PlainNode>,
     levels: Vec<(usize, usize)>,
@@ -62,10 +62,14 @@ impl Hasher for FirstWord {
 
 type PlainMap = HashMap<MerkleHash, u64, BuildHasherDefault<FirstWord>>;
 
-/// Order, a subtree's JSON by serde, and a map's bytes.
+/// Order, base64, copies of subtrees, a subtree's JSON by serde, and a map's bytes.
 pub fn print() {
     println!("{HEAD}");
     sorting();
+    base64();
+    for count in [10, 100, 1000, 10_000] {
+        cloning(count);
+    }
     subtree(357);
     map(3_000_000);
 }
@@ -82,12 +86,46 @@ fn sorting() {
     row.print();
 }
 
+fn base64() {
+    let hashes: Vec<MerkleHash> = crate::chunks(1, Cuts::Drawn, 1000).into_iter().map(|(hash, _)| hash).collect();
+    assert!(hashes.iter().all(|hash| hash.base64() == plain::base64_text(hash)));
+    let writing = |text: fn(&MerkleHash) -> String| {
+        let hashes = &hashes;
+        Task::call(move || hashes.iter().for_each(|hash| drop(black_box(text(black_box(hash))))))
+    };
+    let row = Row {
+        name: "`base64` of 1000 hashes".into(),
+        ours: writing(MerkleHash::base64),
+        peers: vec![("a table of symbols", writing(|hash| plain::base64_text(hash)))],
+        tenfold: None,
+    };
+    row.print();
+}
+
+fn plain_subtree(subtree: &MerkleHashSubtree) -> PlainSubtree {
+    let text = serde_json::to_string(subtree).expect("a text");
+    serde_json::from_str(&text).expect("the text of a subtree")
+}
+
+fn cloning(count: usize) {
+    let subtree = MerkleHashSubtree::from_chunks(false, &crate::chunks(3, Cuts::Nowhere, count), false);
+    let theirs = plain_subtree(&subtree);
+    assert_eq!(theirs.nodes.len(), count);
+    let row = Row {
+        name: format!("`clone` of a subtree, {count} nodes"),
+        ours: Task::call(|| black_box(&subtree).clone()),
+        peers: vec![("plain structs", Task::call(|| black_box(&theirs).clone()))],
+        tenfold: None,
+    };
+    row.print();
+}
+
 // A range that keeps all its chunks.
 fn subtree(count: usize) {
     let subtree = MerkleHashSubtree::from_chunks(false, &crate::chunks(3, Cuts::Nowhere, count), false);
     let text = serde_json::to_string(&subtree).expect("a text");
     let read = |text: &str| -> PlainSubtree { serde_json::from_str(text).expect("the text of a subtree") };
-    let theirs = read(&text);
+    let theirs = plain_subtree(&subtree);
     assert_eq!((theirs.nodes.len(), serde_json::to_string(&theirs).expect("a text")), (count, text.clone()));
     let row = Row {
         name: format!("`serde_json::to_string` of a subtree, {count} nodes"),

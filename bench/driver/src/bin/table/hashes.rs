@@ -20,15 +20,28 @@ const PEER: &str = if cfg!(feature = "portable") {
     "`blake3`, SIMD"
 };
 
-const LENGTHS: [(&str, usize); 8] = [
+const LENGTHS: [(&str, usize); 11] = [
     ("64 B", 64),
     ("1 KiB", 1 << 10),
     ("2 KiB", 2 << 10),
     ("4 KiB", 4 << 10),
     ("8 KiB", 8 << 10),
     ("16 KiB", 16 << 10),
+    ("20 KiB", 20 << 10),
+    ("24 KiB", 24 << 10),
+    ("48 KiB", 48 << 10),
     ("64 KiB", 64 << 10),
     ("1 MiB", 1 << 20),
+];
+
+const PIECES: [(&str, usize); 7] = [
+    ("1 B", 1),
+    ("13 B", 13),
+    ("100 B", 100),
+    ("2 KiB", 2 << 10),
+    ("4 KiB", 4 << 10),
+    ("16 KiB", 16 << 10),
+    ("64 KiB", 64 << 10),
 ];
 
 /// More bytes than any cache holds. In them the chunks of an upload follow each other.
@@ -98,7 +111,7 @@ pub fn print_hashes() {
     print_in_turn("chunks, hot", &bytes, &chunk_places(bytes.len()));
     print_in_turn("chunks, cold", &cold, &chunk_places(cold.len()));
     let message = &bytes[..];
-    for (name, length) in [("100 B", 100), ("2 KiB", 2 << 10), ("16 KiB", 16 << 10), ("64 KiB", 64 << 10)] {
+    for (name, length) in PIECES {
         assert_eq!(*in_pieces(message, length), plain::data_hash(message));
         let row = Row {
             name: format!("`update`, 1 MiB in pieces of {name}"),
