@@ -4,8 +4,8 @@
  *
  * The bounds are half as much again as is asked for:
  *
- * - A node has 40 bytes. Calls copy the list that they get, except for its root. The parents of n nodes are at most n / 3, and those of
- *   parents are made in their place.
+ * - A node has 40 bytes. Calls copy the list that they get, except for its root, its subtree and its stable points. The parents of n nodes
+ *   are at most n / 3, and those of parents are made in their place.
  * - A subtree of random chunks keeps a few nodes a level. Without natural cuts it keeps all.
  * - A hash tree keeps all nodes of all levels.
  * - The JSON of a subtree is written to one text, and what was written so is read without a tree of values, and written again. Other JSON
@@ -484,14 +484,14 @@ static const struct {
 } rows[] = {
     {"xorb_hash", nothing, xorb_hash, 0, 20},
     {"file_hash", nothing, file_hash, 0, 20},
-    {"subtree_from_chunks", nothing, from_chunks, 0, 75},
-    {"subtree_from_chunks without cuts", nothing, from_plain_chunks, 0, 100},
-    {"stable points", nothing, stable_points, 0, 100},
+    {"subtree_from_chunks", nothing, from_chunks, 0, 35},
+    {"subtree_from_chunks without cuts", nothing, from_plain_chunks, 0, 60},
+    {"stable points", nothing, stable_points, 0, 0},
     {"merge_into", two_halves, merge_into, 0, 0},
     {"merge_into without cuts", plain_halves, merge_into, 0, 60},
     {"merge_into of one chunk", plain_and_one, merge_into_often, 0, 120},
     {"merge_into of one cut", plain_and_cut, merge_into_twice, 0, 120},
-    {"merge", singles, merge, 3, 540},
+    {"merge", singles, merge, 1, 360},
     {"to_json", text, to_json, 0, 160},
     {"from_json", text, from_json, 0, 330},
     {"from_flat", flat, from_flat, 0, 120},

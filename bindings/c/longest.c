@@ -92,14 +92,6 @@ static void expect_nodes(yurewha_subtree *subtree, size_t wanted)
 
 /* ---- Hashes and roots */
 
-static void base64(void)
-{
-    size_t length = 0;
-    it.text = block(LONGEST);
-    EXPECT_STATUS(YUREWHA_DONE, yurewha_base64(&other.hash, it.text, LONGEST, &length));
-    free(it.text);
-}
-
 static void from_base64(void)
 {
     yurewha_hash hash;
@@ -128,22 +120,6 @@ static void file_hash_with_salt(void)
     yurewha_hash hash;
     EXPECT_STATUS(YUREWHA_DONE, yurewha_file_hash_with_salt(it.chunks, LONGEST, &no_salt, &hash));
     EXPECT(same_hash(&hash, &it.file));
-}
-
-static void find_stable_start(void)
-{
-    yurewha_chunk *nodes = list_of("...|", LONGEST);
-    size_t point = 0;
-    EXPECT_STATUS(YUREWHA_DONE, yurewha_find_stable_start(nodes, LONGEST, &point));
-    free(nodes);
-}
-
-static void find_stable_end(void)
-{
-    yurewha_chunk *nodes = list_of("...|", LONGEST);
-    size_t point = 0;
-    EXPECT_STATUS(YUREWHA_DONE, yurewha_find_stable_end(nodes, LONGEST, &point));
-    free(nodes);
 }
 
 /* ---- Subtrees */
@@ -512,9 +488,8 @@ struct call {
 
 /* Each reader of JSON or bytes comes right after its writer, whose text it frees. */
 static const struct call of_lists[] = {
-    ROW(base64), ROW(from_base64), ROW(xorb_hash), ROW(file_hash), ROW(file_hash_with_salt), ROW(find_stable_start), ROW(find_stable_end),
-    ROW(subtree_from_chunks), ROW(subtree_clone), ROW(subtree_merge_into), ROW(subtree_merge_into_counted), ROW(subtree_to_json),
-    ROW(subtree_from_json), ROW(subtree_from_flat), ROW(subtree_merge), ROW(hash_tree_from_chunks), ROW(hash_tree_proof),
+    ROW(from_base64), ROW(xorb_hash), ROW(file_hash), ROW(file_hash_with_salt), ROW(subtree_from_chunks), ROW(subtree_clone),
+    ROW(subtree_merge_into), ROW(subtree_merge_into_counted), ROW(subtree_to_json), ROW(subtree_from_json), ROW(subtree_from_flat), ROW(subtree_merge), ROW(hash_tree_from_chunks), ROW(hash_tree_proof),
     ROW(range_proof_to_json), ROW(range_proof_from_json), ROW(range_proof_to_bytes), ROW(range_proof_from_bytes), ROW(range_proof_open),
     ROW(range_proof_open_root), ROW(reader_new), ROW(part_open), ROW(part_open_json),
 };

@@ -301,10 +301,9 @@ YUREWHA_NODISCARD YUREWHA_NONNULL(3) YUREWHA_SINCE(1.0)
 yurewha_status yurewha_from_hex(const char *text, size_t length, yurewha_hash *hash);
 
 /* Writes the base64 text of a hash to `text`. The text is 43 characters of the URL-safe alphabet, without padding.
- * `length` becomes 43, unless an allocation fails.
- *   DONE    it is written
- *   ROOM    there is room for fewer than 43 bytes
- *   MEMORY  an allocation failed */
+ * `length` always becomes 43. It allocates nothing.
+ *   DONE  there is room for at least 43 bytes
+ *   ROOM  there is room for fewer than 43 bytes */
 YUREWHA_NODISCARD YUREWHA_NONNULL(1, 4) YUREWHA_SINCE(1.0)
 yurewha_status yurewha_base64(const yurewha_hash *hash, char *text, size_t room, size_t *length);
 
@@ -365,15 +364,14 @@ yurewha_status yurewha_file_hash_with_salt(const yurewha_chunk *chunks, size_t c
                                            yurewha_hash *hash);
 
 /* Writes the first stable point of some nodes, as the number of nodes before it. At a stable point a group ends, no matter
- * which nodes come before and after the given ones.
+ * which nodes come before and after the given ones. It allocates nothing.
  *   DONE       the point is written
- *   ARGUMENTS  there is none
- *   MEMORY     an allocation failed */
+ *   ARGUMENTS  there is none */
 YUREWHA_NODISCARD YUREWHA_NONNULL(3) YUREWHA_SINCE(1.0)
 yurewha_status yurewha_find_stable_start(const yurewha_chunk *nodes, size_t count, size_t *point);
 
-/* Writes the last stable point of some nodes, as the number of nodes before it. The statuses are those of
- * yurewha_find_stable_start. */
+/* Writes the last stable point of some nodes, as the number of nodes before it. It allocates nothing. The statuses are
+ * those of yurewha_find_stable_start. */
 YUREWHA_NODISCARD YUREWHA_NONNULL(3) YUREWHA_SINCE(1.0)
 yurewha_status yurewha_find_stable_end(const yurewha_chunk *nodes, size_t count, size_t *point);
 
@@ -453,10 +451,11 @@ yurewha_status yurewha_subtree_merge_into_counted(yurewha_subtree *subtree, yure
  * concatenated chunk lists, with the start mark of the first range and the end mark of the last one. With no ranges it is
  * the empty subtree with both marks. With one range it is a copy. The ranges are unchanged.
  *   DONE          they are merged
- *   EMPTY_HANDLE  the handle of a range is empty
- *   ARGUMENTS     a range other than the first is marked at its start, or one other than the last at its end
- *   SIZES         the sizes of all ranges add up to more than 2^64 - 1
- *   MEMORY        an allocation failed; this may be returned instead of the three above */
+ *   EMPTY_HANDLE  if and only if the handle of a range is empty
+ *   ARGUMENTS     if and only if no handle of a range is empty, and a range other than the first is marked at its start,
+ *                 or one other than the last at its end
+ *   SIZES         if and only if neither of these applies, and the sizes of all ranges add up to more than 2^64 - 1
+ *   MEMORY        an allocation failed */
 YUREWHA_NODISCARD YUREWHA_NONNULL(3) YUREWHA_SINCE(1.0)
 yurewha_status yurewha_subtree_merge(yurewha_subtree *ranges, size_t count, yurewha_subtree *merged);
 

@@ -8,7 +8,7 @@ import { BYTES, capped, chunksOf, pagesOf, wrapped } from "./support.js";
 
 const COUNT = 300;
 /** The calls of a scene that take no memory. */
-const TAKE_NONE = ["findStableStart", "findStableEnd", "a proof of bytes", "gaps", "look-ups of an index", "entries of an index", "diff"];
+const TAKE_NONE = ["base64", "findStableStart", "findStableEnd", "a proof of bytes", "gaps", "look-ups of an index", "entries of an index", "diff"];
 const plain = (range) => [range.atStart, range.atEnd, range.levels, Buffer.from(range.toFlat().nodes.bytes).toString("hex")];
 
 /** Objects of an instance, what they are, and calls on them, each with what it gives. */

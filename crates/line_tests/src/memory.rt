@@ -50,7 +50,7 @@ fn a_list_has_4096_pairs(rt: HostRuntime) {
     // The allocations by which a list grows to 4096 pairs and is merged. One more pair ends the list, which needs more
     // than the one allocation that growing would need.
     for (call, requests) in [
-        (Call::Run, 25),
+        (Call::Run, 26),
         (Call::RunOverPlainRanges, 15),
         (Call::Make, 15),
     ] {

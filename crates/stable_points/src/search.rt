@@ -1,12 +1,13 @@
 //! The stable points of a list of nodes. Groups end there, whatever nodes come before and after the list.
 
-ghost use Rattle.std.specs.Prelude.{◌≡◌, ◌+◌, ◌<◌, ◌≤◌, ◌↔◌, List, ◌++◌, true, false, length, take, drop, IfSome, IfNone, IsTrue};
-ghost use Rattle.xet_roots.specs.Groups.{Node};
+ghost use Rattle.std.specs.Prelude.{◌≡◌, ◌+◌, ◌<◌, ◌≤◌, ◌↔◌, List, ◌++◌, true, false, length, map, take, drop, IfSome, IfNone, IsTrue};
+ghost use Rattle.xet_roots.specs.Groups.{Node, EndsWithCut};
 ghost use Rattle.stable_points.specs.StablePoints.{NoCut, EndsStable, NoStable, IsFirstStable, IsLastStable, IsGroupBoundary};
 ghost use Rattle.stable_points.specs.Steps.StableScan.{is_stable_gap};
 ghost use Rattle.stable_points.specs.Steps.StableScan.{after_cut, completes, next_scan, IsFront, scan_after, completes_none, AddsNoStable, AddsNoStableBefore};
 
 use xet_roots::aggregated_hashes::Node;
+use xet_roots::as_node::AsNode;
 use xet_roots::groups::{MAX_GROUP_LEN, MIN_GROUP_LEN, is_natural_cut};
 
 // The fewest and the most nodes between two natural cuts for which a group ends at the second, whatever nodes come
@@ -172,9 +173,20 @@ pub fn find_stable_start(nodes: &[Node]) -> Option<usize>
         IsGroupBoundary (before ++ take p nodes.now) (drop p nodes.now ++ after)) }
     ensures none { IfNone result (NoStable nodes.now) }
 {
+    find_stable_start_of(nodes)
+}
+
+/// Does the same as [`find_stable_start`] for nodes in a form of the caller's own.
+pub fn find_stable_start_of<T: AsNode>(nodes: &[T]) -> Option<usize>
+    ensures bound { IfSome result (λ p. p ≤ length nodes.now) }
+    ensures first { IfSome result (λ p. IsFirstStable (take p (map T.node_of nodes.now)) (drop p (map T.node_of nodes.now))) }
+    ensures boundary { IfSome result (λ p. (before after : List Node) →
+        IsGroupBoundary (before ++ take p (map T.node_of nodes.now)) (drop p (map T.node_of nodes.now) ++ after)) }
+    ensures none { IfNone result (NoStable (map T.node_of nodes.now)) }
+{
     let mut scan = CutScan::new(false);
     'scan: for i in 0..nodes.len() {
-        let is_cut = is_natural_cut(&nodes[i]);
+        let is_cut = is_natural_cut(&nodes[i].node());
         if scan.completes(is_cut) {
             return Some(i - scan.since_cut);
         }
@@ -190,10 +202,20 @@ pub fn last_stable(nodes: &[Node], after_cut: bool) -> Option<usize>
         IsLastStable (front ++ take p nodes.now) (drop p nodes.now)) }
     ensures none { IfNone result ((front : List Node) → IsFront after_cut front → NoStable (front ++ nodes.now)) }
 {
+    last_stable_of(nodes, after_cut)
+}
+
+// Does the same for nodes in a form of the caller's own.
+fn last_stable_of<T: AsNode>(nodes: &[T], after_cut: bool) -> Option<usize>
+    ensures bound { IfSome result (λ p. p ≤ length nodes.now) }
+    ensures last { IfSome result (λ p. (front : List Node) → IsFront after_cut front →
+        IsLastStable (front ++ take p (map T.node_of nodes.now)) (drop p (map T.node_of nodes.now))) }
+    ensures none { IfNone result ((front : List Node) → IsFront after_cut front → NoStable (front ++ map T.node_of nodes.now)) }
+{
     let mut scan = CutScan::new(after_cut);
     let mut found = None;
     'scan: for i in 0..nodes.len() {
-        let is_cut = is_natural_cut(&nodes[i]);
+        let is_cut = is_natural_cut(&nodes[i].node());
         if scan.completes(is_cut) {
             found = Some(i - scan.since_cut);
         }
@@ -211,5 +233,43 @@ pub fn find_stable_end(nodes: &[Node]) -> Option<usize>
         IsGroupBoundary (before ++ take p nodes.now) (drop p nodes.now ++ after)) }
     ensures none { IfNone result (NoStable nodes.now) }
 {
-    last_stable(nodes, false)
+    find_stable_end_of(nodes)
+}
+
+// How many of the last nodes are looked at first for the last stable point. Of 16 lists, 15 have it there.
+const NEAR_END: usize = 64;
+
+// Returns how many nodes there are up to the last natural cut with at least `near` nodes after it, if there is one.
+fn cut_before<T: AsNode>(nodes: &[T], near: usize) -> Option<usize>
+    ensures some { IfSome result (λ count. 0 < count) }
+    ensures before { IfSome result (λ count. count + near ≤ length nodes.now) }
+    ensures cut { IfSome result (λ count. EndsWithCut (take count (map T.node_of nodes.now))) }
+{
+    let mut count = nodes.len().checked_sub(near)?;
+    'nodes: while count > 0 {
+        if is_natural_cut(&nodes[count - 1].node()) {
+            return Some(count);
+        }
+        count -= 1;
+    }
+    None
+}
+
+/// Does the same as [`find_stable_end`] for nodes in a form of the caller's own.
+pub fn find_stable_end_of<T: AsNode>(nodes: &[T]) -> Option<usize>
+    ensures bound { IfSome result (λ p. p ≤ length nodes.now) }
+    ensures last { IfSome result (λ p. IsLastStable (take p (map T.node_of nodes.now)) (drop p (map T.node_of nodes.now))) }
+    ensures boundary { IfSome result (λ p. (before after : List Node) →
+        IsGroupBoundary (before ++ take p (map T.node_of nodes.now)) (drop p (map T.node_of nodes.now) ++ after)) }
+    ensures none { IfNone result (NoStable (map T.node_of nodes.now)) }
+{
+    let mut near = NEAR_END;
+    'near: while let Some(start) = cut_before(nodes, near) {
+        let (_, late) = nodes.split_at(start);
+        if let Some(found) = last_stable_of(late, true) {
+            return Some(start + found);
+        }
+        near = late.len().saturating_mul(2);
+    }
+    last_stable_of(nodes, false)
 }

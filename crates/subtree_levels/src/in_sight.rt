@@ -127,7 +127,7 @@ impl<'a, A: Allocator> InSight<'a, A> {
 
     // Splits the nodes in sight into what is collapsed and what stays on either side. An operand that has levels above
     // keeps its outer side.
-    pub(crate) fn split<'s>(&'s self, nodes: &'s [Node]) -> Split<'s>
+    pub(crate) fn split<'s>(&'s self, nodes: &'s [Node]) -> Split<'s, Node>
         requires above { (1 < length self.now.front) ⊎ (1 < length self.now.back) }
         requires nodes { nodes.now ≡ seen self.now }
         ensures { IsSightSplit self.now result.left.now result.middle.now result.right.now }

@@ -22,6 +22,8 @@ mod subtree;
 pub use chunk_ranges::chunk_range::ChunkRange;
 pub use chunk_ranges::merge_tree::MergeTree;
 pub use chunk_ranges::plain_range::PlainRange;
-pub use stable_points::search::{find_stable_end, find_stable_start};
+pub use stable_points::search::{
+    find_stable_end, find_stable_end_of, find_stable_start, find_stable_start_of,
+};
 pub use subtree::MerkleHashSubtree;
 pub use xet_roots::parent_maker::ParentMaker;

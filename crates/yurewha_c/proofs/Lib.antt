@@ -5,6 +5,7 @@ pub mod FlatLevels
 pub mod FlatProofs
 pub mod FactCalls
 pub mod HandleLists
+pub mod HandleMerging
 pub mod Handles
 pub mod HashPairs
 pub mod HandleTypes

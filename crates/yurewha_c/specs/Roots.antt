@@ -22,7 +22,7 @@ pub record WritesFileHash (chunks : List Chunk) (salt : List ℕ) (status : ℕ)
 
 -- a stable point of nodes is written, and `IsPoint` holds of it, or nothing is written
 pub record WritesPoint (IsPoint : List Node → List Node → Type 0) (nodes : List Chunk) (status old new : ℕ) : Type 0 where
-  pub statuses : (status ≡ done) ⊎ ((status ≡ arguments) ⊎ (status ≡ memory))
+  pub statuses : (status ≡ done) ⊎ (status ≡ arguments)
   pub bound : status ≡ done → new ≤ length nodes
   pub point : status ≡ done → IsPoint (take new (nodes_of nodes)) (drop new (nodes_of nodes))
   pub none : status ≡ arguments → NoStable (nodes_of nodes)

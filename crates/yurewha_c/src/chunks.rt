@@ -1,11 +1,10 @@
 //! Chunks as C passes them.
 
-ghost use Rattle.std.specs.Prelude.{◌≡◌, ◌↔◌, ◌^◌, ◌<◌, IfOk, IsTrue};
+ghost use Rattle.std.specs.Prelude.{◌≡◌, ◌↔◌, ◌^◌, ◌<◌, IsTrue};
 ghost use Rattle.xet_merkle.specs.Roots.{total_size};
 ghost use Rattle.yurewha_c.specs.Chunks.{node_of, nodes_of};
 
 use crate::hash::Hash;
-use std::alloc::{AllocError, Global};
 use xet_merkle::aggregated_hashes::Node;
 use xet_merkle::as_node::{AsNode, total_size_of};
 
@@ -35,17 +34,6 @@ impl Chunk {
             size: node.1,
         }
     }
-}
-
-// Returns the library's nodes, in allocated memory.
-pub(crate) fn nodes_of(alloc: Global, chunks: &[Chunk]) -> Result<Vec<Node>, AllocError>
-    ensures { IfOk result (λ nodes. nodes.items ≡ nodes_of chunks.now) }
-{
-    let mut nodes = Vec::with_capacity(alloc, chunks.len())?;
-    'chunks: for chunk in chunks {
-        nodes.push(chunk.node())?;
-    }
-    Ok(nodes)
 }
 
 // Returns whether the sizes add up to at most `u64::MAX`.

@@ -10,7 +10,6 @@ use crate::status::{DONE, MEMORY, ROOM, TEXT};
 use crate::text::write_text;
 use std::alloc::Global;
 use xet_hash::data_hash::{DataHash, HashTextError};
-use xet_hash::laws::hash_reads_back_from_base64_text;
 
 /// Writes the hex text of a hash to `room`. The text is 64 lower-case digits: 16 for each word in order, its highest
 /// digit first. So it isn't the hex of the 32 bytes of the hash, in which each word is little-endian. `text_len` always
@@ -54,36 +53,21 @@ pub extern "C" fn yurewha_from_hex(text: &[u8], hash: &mut Hash) -> u32
 }
 
 /// Writes the base64 text of a hash to `room`. The text is 43 characters of the URL-safe alphabet, without padding.
-/// `text_len` becomes 43, unless an allocation fails.
+/// `text_len` always becomes 43. It allocates nothing.
 ///
-/// - `DONE`: it is written.
+/// - `DONE`: there is room for at least 43 bytes.
 /// - `ROOM`: there is room for fewer than 43 bytes.
-/// - `MEMORY`: an allocation failed.
 ///
 /// Since 1.0.
 #[unsafe(no_mangle)]
-pub extern "C" fn yurewha_base64(
-    alloc: Global,
-    hash: &Hash,
-    room: &mut [u8],
-    text_len: &mut usize,
-) -> u32
-    ensures statuses { (result ≡ DONE) ⊎ ((result ≡ ROOM) ⊎ (result ≡ MEMORY)) }
-    ensures done { result ≡ DONE → 43 ≤ length room.old }
-    ensures room { result ≡ ROOM → length room.old < 43 }
+pub extern "C" fn yurewha_base64(hash: &Hash, room: &mut [u8], text_len: &mut usize) -> u32
+    ensures done { (result ≡ DONE) ↔ (43 ≤ length room.old) }
+    ensures room { (result ≡ ROOM) ↔ (length room.old < 43) }
     ensures written { result ≡ DONE → room.new ≡ base64_text hash.now.words ++ drop 43 room.old }
     ensures unchanged { result ≢ DONE → room.new ≡ room.old }
-    ensures len { result ≢ MEMORY → text_len.new ≡ 43 }
-    ensures no_len { result ≡ MEMORY → text_len.new ≡ text_len.old }
+    ensures len { text_len.new ≡ 43 }
 {
-    match hash.value().base64(alloc) {
-        Ok(text) => {
-            // A law of base64 texts, for the contract.
-            hash_reads_back_from_base64_text();
-            write_text(text.as_bytes(), room, text_len)
-        }
-        Err(_) => MEMORY,
-    }
+    write_text(&hash.value().base64_characters(), room, text_len)
 }
 
 /// Writes the hash that has this base64 text.

@@ -6,11 +6,12 @@ ghost use Rattle.yurewha_c.specs.Chunks.{nodes_of};
 ghost use Rattle.yurewha_c.specs.FlatLists.{counts_of};
 ghost use Rattle.yurewha_c.specs.ProofLists.{AreOfProof, IsFlatRule, WritesProof};
 
-use crate::chunks::{Chunk, nodes_of};
+use crate::chunks::Chunk;
 use crate::status::{DONE, MEMORY, ROOM, status_of_proof};
 use crate::subtree_flat::{Level, counts_of, write_nodes};
 use range_proof::RangeProof;
 use std::alloc::Global;
+use xet_merkle::as_node::read_nodes;
 
 // Makes a range proof from flat lists. Fails with `MEMORY`, or `PROOF_RULE` and the lowest rule from 5 to 8 that they break.
 pub(crate) fn read_proof(
@@ -24,7 +25,7 @@ pub(crate) fn read_proof(
     let Ok(counts) = counts_of(alloc, levels) else {
         return Err(MEMORY);
     };
-    let Ok(nodes) = nodes_of(alloc, nodes) else {
+    let Ok(nodes) = read_nodes(alloc, nodes) else {
         return Err(MEMORY);
     };
     match RangeProof::from_flat(alloc, &counts, &nodes) {

@@ -6,13 +6,13 @@ ghost use Rattle.xet_merkle.specs.StablePoints.{IsFirstStable, IsLastStable};
 ghost use Rattle.yurewha_c.specs.Chunks.{nodes_of};
 ghost use Rattle.yurewha_c.specs.Roots.{IsBoundaryAnywhere, IsRootStatus, WritesFileHash, WritesPoint};
 
-use crate::chunks::{Chunk, nodes_of};
+use crate::chunks::Chunk;
 use crate::hash::{Bytes, Hash};
-use crate::status::{ARGUMENTS, DONE, MEMORY, status_of};
+use crate::status::{ARGUMENTS, DONE, status_of};
 use std::alloc::Global;
 use xet_merkle::aggregated_hashes::file_hash_of_root;
 use xet_merkle::as_node::xorb_hash_of;
-use xet_merkle::merkle_hash_subtree::{find_stable_end, find_stable_start};
+use xet_merkle::merkle_hash_subtree::{find_stable_end_of, find_stable_start_of};
 
 /// Writes the root of a list of chunks. The root of no chunks is the default hash. The root of one chunk is its own
 /// hash. The root of more chunks is the hash at the top of their tree.
@@ -78,26 +78,18 @@ pub extern "C" fn yurewha_file_hash_with_salt(
 }
 
 /// Writes the first stable point of some nodes, as the number of nodes before it. At a stable point a group ends, no
-/// matter which nodes come before and after the given ones.
+/// matter which nodes come before and after the given ones. It allocates nothing.
 ///
 /// - `DONE`: the point is written.
 /// - `ARGUMENTS`: there is none.
-/// - `MEMORY`: an allocation failed.
 ///
 /// Since 1.0.
 #[unsafe(no_mangle)]
-pub extern "C" fn yurewha_find_stable_start(
-    alloc: Global,
-    nodes: &[Chunk],
-    point: &mut usize,
-) -> u32
+pub extern "C" fn yurewha_find_stable_start(nodes: &[Chunk], point: &mut usize) -> u32
     ensures point { WritesPoint IsFirstStable nodes.now result point.old point.new }
     ensures boundary { result ≡ DONE → IsBoundaryAnywhere point.new (nodes_of nodes.now) }
 {
-    let Ok(nodes) = nodes_of(alloc, nodes) else {
-        return MEMORY;
-    };
-    match find_stable_start(&nodes) {
+    match find_stable_start_of(nodes) {
         Some(found) => {
             *point = found;
             DONE
@@ -106,19 +98,16 @@ pub extern "C" fn yurewha_find_stable_start(
     }
 }
 
-/// Writes the last stable point of some nodes, as the number of nodes before it. The statuses are those of
-/// `yurewha_find_stable_start`.
+/// Writes the last stable point of some nodes, as the number of nodes before it. It allocates nothing. The statuses are
+/// those of `yurewha_find_stable_start`.
 ///
 /// Since 1.0.
 #[unsafe(no_mangle)]
-pub extern "C" fn yurewha_find_stable_end(alloc: Global, nodes: &[Chunk], point: &mut usize) -> u32
+pub extern "C" fn yurewha_find_stable_end(nodes: &[Chunk], point: &mut usize) -> u32
     ensures point { WritesPoint IsLastStable nodes.now result point.old point.new }
     ensures boundary { result ≡ DONE → IsBoundaryAnywhere point.new (nodes_of nodes.now) }
 {
-    let Ok(nodes) = nodes_of(alloc, nodes) else {
-        return MEMORY;
-    };
-    match find_stable_end(&nodes) {
+    match find_stable_end_of(nodes) {
         Some(found) => {
             *point = found;
             DONE

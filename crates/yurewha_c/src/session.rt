@@ -9,7 +9,7 @@ ghost use Rattle.yurewha_c.specs.Chunks.{nodes_of};
 ghost use Rattle.yurewha_c.specs.Handles.{BothHold, IsCopyStatus, Reads};
 ghost use Rattle.yurewha_c.specs.Sessions.{seen_hashes, HoldsOfPlaced, IsWholeStatus, Stands};
 
-use crate::chunks::{Chunk, nodes_of};
+use crate::chunks::Chunk;
 use crate::hash::Hash;
 use crate::kept_session::KeptSession;
 use crate::session_handle::SessionHandle;
@@ -20,6 +20,7 @@ use crate::status::{
 use std::alloc::Global;
 use upload_session::session::SessionOf;
 use upload_session::session_fault::SessionFault;
+use xet_merkle::as_node::read_nodes;
 
 /// Makes a session without chunks. The handle owns it.
 ///
@@ -112,7 +113,7 @@ fn put_chunks(
     if chunks.is_empty() {
         return kept.session.put(first, &[]);
     }
-    let nodes = nodes_of(alloc, chunks)?;
+    let nodes = read_nodes(alloc, chunks)?;
     let count = kept.session.put(first, &nodes)?;
     forget_unkept(alloc, kept);
     Ok(count)

@@ -8,7 +8,7 @@ ghost use Rattle.xet_merkle.specs.Subtree.{IsCanonical};
 ghost use Rattle.yurewha_c.specs.Chunks.{nodes_of};
 ghost use Rattle.yurewha_c.specs.Handles.{IsCopyStatus, Reads, ReadsBoth};
 
-use crate::chunks::{Chunk, nodes_of, sizes_fit};
+use crate::chunks::Chunk;
 use crate::hash::Hash;
 use crate::status::{ARGUMENTS, DONE, EMPTY_HANDLE, MEMORY, SIZES, status_of};
 use crate::subtree_handle::SubtreeHandle;
@@ -39,13 +39,7 @@ pub extern "C" fn yurewha_subtree_from_chunks(
     ensures statuses { (result ≡ DONE) ⊎ ((result ≡ SIZES) ⊎ (result ≡ MEMORY)) }
     ensures unchanged { result ≢ DONE → subtree.new.value ≡ subtree.old.value }
 {
-    if !sizes_fit(chunks) {
-        return SIZES;
-    }
-    let Ok(nodes) = nodes_of(alloc, chunks) else {
-        return MEMORY;
-    };
-    match MerkleHashSubtree::from_chunks(alloc, at_start, &nodes, at_end) {
+    match MerkleHashSubtree::from_chunks_of(alloc, at_start, chunks, at_end) {
         Ok(made) => subtree.hold(alloc, made),
         Err(error) => status_of(error),
     }

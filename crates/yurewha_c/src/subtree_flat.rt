@@ -7,11 +7,12 @@ ghost use Rattle.xet_merkle.specs.JsonRules.{BreaksValueRule};
 ghost use Rattle.yurewha_c.specs.Chunks.{nodes_of};
 ghost use Rattle.yurewha_c.specs.FlatLists.{counts_of};
 
-use crate::chunks::{Chunk, nodes_of};
+use crate::chunks::Chunk;
 use crate::status::{DONE, EMPTY_HANDLE, MEMORY, ROOM, RULE, status_of};
 use crate::subtree_handle::SubtreeHandle;
 use std::alloc::{AllocError, Global};
 use xet_merkle::aggregated_hashes::Node;
+use xet_merkle::as_node::read_nodes;
 use xet_merkle::merkle_hash_subtree::MerkleHashSubtree;
 
 /// How many nodes a subtree or a range proof has on a level, on the left side and on the right side.
@@ -62,7 +63,7 @@ pub extern "C" fn yurewha_subtree_from_flat(
     let Ok(counts) = counts_of(alloc, levels) else {
         return MEMORY;
     };
-    let Ok(nodes) = nodes_of(alloc, nodes) else {
+    let Ok(nodes) = read_nodes(alloc, nodes) else {
         return MEMORY;
     };
     match MerkleHashSubtree::from_flat(alloc, at_start, counts, nodes, at_end) {

@@ -1,16 +1,19 @@
 //! Merges subtrees of adjacent ranges.
 
-ghost use Rattle.std.specs.Prelude.{◌≡◌, ◌≢◌, ◌⊎◌, ◌↔◌, ℕ, ◌+◌, ◌-◌, ◌*◌, ◌^◌, ◌≤◌, List, length, min, IsSomeAnd, IfOk, IfErr};
-ghost use Rattle.xet_merkle.specs.Levels.{node_count};
+ghost use Rattle.std.specs.Prelude.{◌≡◌, ◌≢◌, ◌⊎◌, ◌↔◌, ℕ, ◌+◌, ◌-◌, ◌*◌, ◌^◌, ◌<◌, ◌≤◌, List, length, min, IsSomeAnd, IfSome, IfNone, MatchOption, IfOk, IfErr};
+ghost use Rattle.xet_merkle.specs.Levels.{node_count, levels_size};
 ghost use Rattle.xet_merkle.specs.Merging.{IsMerged, IsMergedBy, NoMarkBetweenSubtrees, ranges_size};
 ghost use Rattle.xet_merkle.specs.Roots.{parent};
+ghost use Rattle.xet_merkle.specs.Steps.SubtreeMerging.{ArePassed};
 ghost use Rattle.xet_merkle.specs.Subtree.{Subtree};
 ghost use Rattle.yurewha_c.specs.Handles.{AllHold, values_of};
-ghost use Rattle.yurewha_c.specs.Merging.{IsMergeOf, IsMergeStatus, Merges};
+ghost use Rattle.yurewha_c.specs.Merging.{IsMergeOf, IsMergeStatus, Merges, NoMarkBetween};
 
 use crate::status::{ARGUMENTS, DONE, EMPTY_HANDLE, MEMORY, SIZES, status_of};
 use crate::subtree_handle::SubtreeHandle;
+use chunk_ranges::adjacent::Passed;
 use std::alloc::Global;
+use xet_merkle::CoreError;
 use xet_merkle::merkle_hash_subtree::MerkleHashSubtree;
 
 /// Merges `other`, the subtree of the range that follows, into `subtree`. `subtree` becomes the canonical subtree of
@@ -79,39 +82,54 @@ pub extern "C" fn yurewha_subtree_merge_into_counted(
     }
 }
 
-// Returns copies of the subtrees of some handles. Fails with `EMPTY_HANDLE` or `MEMORY`.
-fn copies_of(alloc: Global, ranges: &mut [SubtreeHandle]) -> Result<Vec<MerkleHashSubtree>, u32>
-    ensures copies { IfOk result (λ copies. AllHold ranges.old copies.items) }
+// Returns what is known of the subtrees of some handles, or `None` if a handle is empty. It allocates nothing.
+fn passed_of(alloc: Global, ranges: &mut [SubtreeHandle]) -> Option<Passed>
+    ensures passed { IfSome result (λ passed. (held : List Subtree) × AllHold ranges.old held × ArePassed passed held) }
+    ensures empty { IfNone result ((held : List Subtree) → ¬ (AllHold ranges.old held)) }
     ensures kept { values_of ranges.new ≡ values_of ranges.old }
-    ensures refused { IfErr result (λ status. ((status ≡ EMPTY_HANDLE)
-        × ((kept : List Subtree) → ¬ (AllHold ranges.old kept))) ⊎ (status ≡ MEMORY)) }
 {
-    let Ok(mut copies) = Vec::with_capacity(alloc, ranges.len()) else {
-        return Err(MEMORY);
-    };
-    'copies: for range in ranges.iter_mut() {
-        let copy = match range.copy(alloc) {
-            Ok(copy) => copy,
-            Err(status) => return Err(status),
-        };
-        let Ok(()) = copies.push(copy) else {
-            return Err(MEMORY);
-        };
+    let mut passed = Passed::new();
+    'passing: for range in ranges.iter_mut() {
+        let subtree = range.take(alloc)?;
+        passed = passed.pass(&*subtree);
+        range.put(subtree);
     }
-    Ok(copies)
+    Some(passed)
 }
 
-// Merges subtrees, and writes the result to a handle.
-fn merge_copies(alloc: Global, copies: &[MerkleHashSubtree], merged: &mut SubtreeHandle) -> u32
-    ensures merged { result ≡ DONE → IsSomeAnd merged.new.value (IsMergeOf copies.now) }
-    ensures arguments { (result ≡ ARGUMENTS) ↔ (¬ (NoMarkBetweenSubtrees copies.now)) }
-    ensures sizes { (result ≡ SIZES) ↔ (NoMarkBetweenSubtrees copies.now × (2 ^ 64 ≤ ranges_size copies.now)) }
-    ensures statuses { (result ≡ DONE) ⊎ ((result ≡ ARGUMENTS) ⊎ ((result ≡ SIZES) ⊎ (result ≡ MEMORY))) }
-    ensures unchanged { result ≢ DONE → merged.new.value ≡ merged.old.value }
+// Merges a subtree into that of the ranges before it, or copies it if there are none. It fails only for lack of memory.
+fn join_next(
+    before: Option<MerkleHashSubtree>,
+    next: &MerkleHashSubtree,
+) -> Result<MerkleHashSubtree, CoreError>
+    requires { IfSome before (λ front. NoMarkBetween front next.now × (levels_size front.levels + levels_size next.now.levels < 2 ^ 64)) }
+    ensures joined { IfOk result (λ joined. MatchOption before (joined ≡ next.now) (λ front. IsMerged front next.now joined)) }
+    ensures errors { IfErr result (λ error. error ≡ CoreError.OutOfMemory) }
 {
-    match MerkleHashSubtree::merge(alloc, copies) {
-        Ok(made) => merged.hold(alloc, made),
-        Err(error) => status_of(error),
+    let Some(mut joined) = before else {
+        return next.try_clone();
+    };
+    joined.merge_into(next)?;
+    Ok(joined)
+}
+
+// Merges the subtrees of some handles, in order. It fails only for lack of memory.
+fn merge_held(alloc: Global, ranges: &mut [SubtreeHandle]) -> Result<MerkleHashSubtree, CoreError>
+    requires { (held : List Subtree) × AllHold ranges.old held × NoMarkBetweenSubtrees held × (ranges_size held < 2 ^ 64) }
+    ensures merged { IfOk result (λ merged. (held : List Subtree) × AllHold ranges.old held × IsMergeOf held merged) }
+    ensures kept { values_of ranges.new ≡ values_of ranges.old }
+    ensures errors { IfErr result (λ error. error ≡ CoreError.OutOfMemory) }
+{
+    let mut merged = None;
+    'merging: for range in ranges.iter_mut() {
+        let subtree = range.take(alloc).unwrap();
+        let joined = join_next(merged, &subtree);
+        range.put(subtree);
+        merged = Some(joined?);
+    }
+    match merged {
+        Some(merged) => Ok(merged),
+        None => MerkleHashSubtree::from_chunks(alloc, true, &[], true),
     }
 }
 
@@ -120,10 +138,11 @@ fn merge_copies(alloc: Global, copies: &[MerkleHashSubtree], merged: &mut Subtre
 /// is the empty subtree with both marks. With one range it is a copy. The ranges are unchanged.
 ///
 /// - `DONE`: they are merged.
-/// - `EMPTY_HANDLE`: the handle of a range is empty.
-/// - `ARGUMENTS`: a range other than the first is marked at its start, or one other than the last at its end.
-/// - `SIZES`: the sizes of all ranges add up to more than 2^64 - 1.
-/// - `MEMORY`: an allocation failed; this may be returned instead of the three above.
+/// - `EMPTY_HANDLE`: if and only if the handle of a range is empty.
+/// - `ARGUMENTS`: if and only if no handle of a range is empty, and a range other than the first is marked at its start,
+///   or one other than the last at its end.
+/// - `SIZES`: if and only if neither of these applies, and the sizes of all ranges add up to more than 2^64 - 1.
+/// - `MEMORY`: an allocation failed.
 ///
 /// Since 1.0.
 #[unsafe(no_mangle)]
@@ -134,20 +153,24 @@ pub extern "C" fn yurewha_subtree_merge(
 ) -> u32
     ensures merged { result ≡ DONE → (kept : List Subtree) → AllHold ranges.old kept →
         IsSomeAnd merged.new.value (IsMergeOf kept) }
-    ensures empty { result ≢ MEMORY →
-        ((result ≡ EMPTY_HANDLE) ↔ ((kept : List Subtree) → ¬ (AllHold ranges.old kept))) }
-    ensures arguments { result ≢ MEMORY → (kept : List Subtree) → AllHold ranges.old kept →
+    ensures empty { (result ≡ EMPTY_HANDLE) ↔ ((kept : List Subtree) → ¬ (AllHold ranges.old kept)) }
+    ensures arguments { (kept : List Subtree) → AllHold ranges.old kept →
         ((result ≡ ARGUMENTS) ↔ (¬ (NoMarkBetweenSubtrees kept))) }
-    ensures sizes { result ≢ MEMORY → (kept : List Subtree) → AllHold ranges.old kept →
+    ensures sizes { (kept : List Subtree) → AllHold ranges.old kept →
         ((result ≡ SIZES) ↔ (NoMarkBetweenSubtrees kept × (2 ^ 64 ≤ ranges_size kept))) }
     ensures statuses { (result ≡ DONE) ⊎ ((result ≡ EMPTY_HANDLE) ⊎ ((result ≡ ARGUMENTS)
         ⊎ ((result ≡ SIZES) ⊎ (result ≡ MEMORY)))) }
     ensures kept { values_of ranges.new ≡ values_of ranges.old }
     ensures unchanged { result ≢ DONE → merged.new.value ≡ merged.old.value }
 {
-    let copies = match copies_of(alloc, ranges) {
-        Ok(copies) => copies,
-        Err(status) => return status,
+    let Some(passed) = passed_of(alloc, ranges) else {
+        return EMPTY_HANDLE;
     };
-    merge_copies(alloc, &copies, merged)
+    if let Some(error) = passed.refusal() {
+        return status_of(error);
+    }
+    match merge_held(alloc, ranges) {
+        Ok(made) => merged.hold(alloc, made),
+        Err(error) => status_of(error),
+    }
 }

@@ -1,12 +1,47 @@
 -- How nodes end and begin next to a stable point.
-use Rattle.std.proofs.Common.{◌≡◌, ℕ, ◌+◌, ◌<◌, ◌≤◌, ◌↔◌, Bool, true, List, [], ◌∷◌, ◌++◌, length, take, drop, get_or, refl, sym, ap, subst, ◌∙◌, inl, arith, append-nil, length-take}
+use Rattle.std.proofs.Common.{◌≡◌, ℕ, ◌+◌, ◌<◌, ◌≤◌, ◌↔◌, Bool, true, List, [], ◌∷◌, ◌++◌, length, take, drop, get_or, refl, sym, ap, subst, ◌∙◌, inl, arith, append_assoc, append-nil, length-append, length-take, take-add, drop-drop}
 use Rattle.std.proofs.lemmas.List.{take-append-drop, drop_more}
+use Rattle.xet_roots.proofs.Lists.Places.{meets}
+use Rattle.xet_roots.proofs.Lists.Places.Meets.{same, earlier, later}
 use Rattle.xet_roots.specs.Groups.{Node, Cut, EndsWithCut}
-use Rattle.stable_points.specs.StablePoints.{NoCut, EndsStable, BeginsStable}
-use Rattle.stable_points.specs.Steps.StableScan.{is_stable_gap}
-use Rattle.stable_points.proofs.StablePoints.CutPlaces.{not_among, back_of, EndsAfter-ends}
+use Rattle.stable_points.specs.StablePoints.{NoCut, EndsStable, BeginsStable, IsLastStable}
+use Rattle.stable_points.specs.Steps.StableScan.{is_stable_gap, IsFront}
+use Rattle.stable_points.proofs.StablePoints.CutPlaces.{EndsWithCut-one, not_among, back_of, EndsAfter-ends, swap_front}
 use Rattle.stable_points.proofs.StablePoints.Scan.{EndsStable-head, head_of_stable, HeadIs, IsScanned, gap_parts, gap_from}
 use Rattle.stable_points.proofs.StablePoints.Search.{FirstCut, same_first_cut}
+
+-- ---- the last stable point behind a natural cut
+
+-- what is the last stable point after a natural cut alone is that after all nodes that end with the cut
+pub last_behind : (front : List Node) (cut : Node) (left right : List Node) → EndsWithCut front → Cut cut → IsLastStable (cut ∷ left) right → IsLastStable (front ++ left) right
+last_behind front cut left right ends is_cut h =
+    let one = EndsWithCut-one cut is_cut in
+    let stable = h.stable.ends in
+    let len = ap length stable.parts in
+    let two = stable.gap.two in
+    let some : 0 < length left =
+    omega (arith, length-append stable.before (stable.first ∷ (stable.between ++ stable.last ∷ [])), length-append stable.between (stable.last ∷ [])) in
+    record {
+      stable = record { ends = swap_front (cut ∷ []) front left one ends some stable; begins = h.stable.begins };
+      last = λ l r e other. elim (meets front (left ++ right) l r (sym (append_assoc front left right) ∙ e)) [
+        | same p q ↦ omega (arith, ap length p, length-append front left)
+        | earlier x gap p q ↦
+            let moved = swap_front front (cut ∷ []) (x ∷ gap) ends one (omega arith) (subst EndsStable p other.ends) in
+            let most = h.last (cut ∷ x ∷ gap) r (ap (λ (nodes : List Node). cut ∷ nodes) q) (record { ends = moved; begins = other.begins }) in
+            omega (arith, ap length p, length-append front (x ∷ gap), length-append front left, most)
+        | later x gap p q ↦ omega (arith, ap length p, length-append l (x ∷ gap), length-append front left)
+      ];
+    }
+
+-- the same by places
+pub last_from : (all : List Node) (start found : ℕ) → EndsWithCut (take start all) →
+    ((front : List Node) → IsFront true front → IsLastStable (front ++ take found (drop start all)) (drop found (drop start all))) →
+    IsLastStable (take (start + found) all) (drop (start + found) all)
+last_from all start found ends last =
+    let late = drop start all in
+    let cut = ends.1 in
+    rw (take-add start found all, sym (drop-drop found start all))
+    (last_behind (take start all) cut (take found late) (drop found late) ends ends.3 (last (cut ∷ []) (cut, refl, ends.3)))
 
 -- ---- a stable end
 

@@ -1,7 +1,8 @@
 -- The split of a list under marks: whether there is one can be decided, there is at most one, and its middle has a
 -- node.
-use Rattle.std.proofs.Common.{◌≡◌, ◌<◌, ◌≤◌, ◌⊎◌, Bool, true, false, List, [], ◌∷◌, ◌++◌, length, refl, sym, ap, subst, ◌∙◌, inl, inr, arith, append-nil, length-append}
+use Rattle.std.proofs.Common.{◌≡◌, ℕ, ◌<◌, ◌≤◌, ◌⊎◌, Bool, true, false, List, [], ◌∷◌, ◌++◌, length, map, take, drop, refl, sym, ap, subst, ◌∙◌, inl, inr, arith, append-nil, length-append}
 use Rattle.std.proofs.lemmas.Bool.{cases_lt}
+use Rattle.std.proofs.lemmas.List.{drop-map, length-map, map-id, take-append-drop, take-map}
 use Rattle.xet_roots.specs.Groups.{Node}
 use Rattle.stable_points.specs.StablePoints.{EndsStable, BeginsStable}
 use Rattle.subtree_levels.specs.Canonical.{IsLow, IsHigh, IsSplit}
@@ -93,6 +94,42 @@ module _ (at_start at_end : Bool) where
       let low = same_low at_start left (middle ++ right) left' (middle' ++ right') (sym h.parts ∙ k.parts) h.low k.low in
       let high = same_high at_end middle right middle' right' low.1 h.high k.high in
       (low.0, high.0, high.1)
+
+-- the split at two places, of nodes in a form of the caller's own
+pub split_at_places : {X : Type 0} (node : X → Node) (at_start at_end : Bool) (nodes left rest middle right : List X) (low high : ℕ) → 2 ≤ length nodes →
+    left ≡ take low nodes → rest ≡ drop low nodes → middle ≡ take high rest → right ≡ drop high rest →
+    IsLow at_start (take low (map node nodes)) (drop low (map node nodes)) → IsHigh at_end (take high (map node rest)) (drop high (map node rest)) →
+    IsSplit at_start at_end (map node nodes) (map node left) (map node middle) (map node right)
+split_at_places node at_start at_end nodes left rest middle right low high several is_left is_rest is_middle is_right is_low is_high =
+    let all = map node nodes in
+    let of_left : map node left ≡ take low all = ap (map node) is_left ∙ sym (take-map node low nodes) in
+    let of_rest : map node rest ≡ drop low all = ap (map node) is_rest ∙ sym (drop-map node low nodes) in
+    let of_middle : map node middle ≡ take high (map node rest) = ap (map node) is_middle ∙ sym (take-map node high rest) in
+    let of_right : map node right ≡ drop high (map node rest) = ap (map node) is_right ∙ sym (drop-map node high rest) in
+    let joined : map node middle ++ map node right ≡ drop low all = rw (of_middle, of_right) (take-append-drop high (map node rest)) ∙ of_rest in
+    record {
+      parts = rw (joined, of_left) (sym (take-append-drop low all));
+      several = omega (arith, length-map nodes node);
+      low = rw (joined, of_left) is_low;
+      high = rw (of_middle, of_right) is_high;
+    }
+
+-- without an upper end after the lower one, there is no split
+pub no_split_after : {X : Type 0} (node : X → Node) (at_start at_end : Bool) (nodes rest : List X) (low : ℕ) → rest ≡ drop low nodes →
+    IsLow at_start (take low (map node nodes)) (drop low (map node nodes)) →
+    ((middle right : List Node) → map node rest ≡ middle ++ right → IsHigh at_end middle right → ⊥) →
+    (left middle right : List Node) → IsSplit at_start at_end (map node nodes) left middle right → ⊥
+no_split_after node at_start at_end nodes rest low is_rest is_low none left middle right h =
+    let all = map node nodes in
+    let of_rest : map node rest ≡ drop low all = ap (map node) is_rest ∙ sym (drop-map node low nodes) in
+    let same = same_low at_start (take low all) (drop low all) left (middle ++ right) (take-append-drop low all ∙ h.parts) is_low h.low in
+    none middle right (of_rest ∙ same.1) h.high
+
+-- the split of nodes that are the library's own
+pub plain_split : (at_start at_end : Bool) (nodes left middle right : List Node) →
+    IsSplit at_start at_end (map (λ (node : Node). node) nodes) (map (λ (node : Node). node) left) (map (λ (node : Node). node) middle) (map (λ (node : Node). node) right) →
+    IsSplit at_start at_end nodes left middle right
+plain_split at_start at_end nodes left middle right h = rw (map-id nodes, map-id left, map-id middle, map-id right) at h
 
 EndsStable-some : (nodes : List Node) → EndsStable nodes → 0 < length nodes
 EndsStable-some nodes h = let len = ap length h.parts in omega (arith, length-append h.before (h.first ∷ (h.between ++ h.last ∷ [])))

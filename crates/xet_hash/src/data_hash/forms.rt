@@ -16,6 +16,9 @@ use serde_json::Value;
 use std::alloc::{AllocError, Allocator, Global};
 use std::{error, fmt};
 
+// The characters of a base64 text: four for each three bytes, and three for the last two.
+const BASE64_LEN: usize = 43;
+
 impl DataHash {
     /// Returns the 32 bytes of [`DataHash::as_bytes`] in a vector. Fails if an allocation fails.
     pub fn to_vec<A: Allocator>(&self, alloc: A) -> Result<Vec<u8, A>, AllocError>
@@ -50,6 +53,18 @@ impl DataHash {
         ensures { IfOk result (λ text. string_bytes text ≡ base64_text self.now) }
     {
         URL_SAFE_NO_PAD.encode(alloc, &self.as_bytes())
+    }
+
+    /// Returns the characters of the text that [`DataHash::base64`] returns. It allocates nothing.
+    ///
+    /// Only this port has this call.
+    #[tactic(auto, unfolding(crate::specs::HashForms::base64_text))]
+    pub fn base64_characters(&self) -> [u8; BASE64_LEN]
+        ensures { result ≡ base64_text self.now }
+    {
+        let mut text = [0; BASE64_LEN];
+        let _written = URL_SAFE_NO_PAD.encode_slice(&self.as_bytes(), &mut text);
+        text
     }
 
     /// Reads a hash from its base64 text. Fails with [`HashTextError::Bytes`] if `text` isn't one that

@@ -1,6 +1,6 @@
 //! The canonical subtree of a list of chunks.
 
-ghost use Rattle.std.specs.Prelude.{◌≡◌, ◌^◌, ◌<◌, ◌≤◌, ◌↔◌, ◌⊎◌, ◌+◌, List, [], length, IfOk, IfErr, IsErrOf, IfSome, IsSome, IsTrue};
+ghost use Rattle.std.specs.Prelude.{◌≡◌, ◌^◌, ◌<◌, ◌≤◌, ◌↔◌, ◌⊎◌, ◌+◌, List, [], length, map, IfOk, IfErr, IsErrOf, IfSome, IsSome, IsTrue};
 ghost use Rattle.xet_roots.specs.Groups.{Node};
 ghost use Rattle.xet_roots.specs.Roots.{total_size, IsRoot};
 ghost use Rattle.subtree_levels.specs.Levels.{top_hash, hash_of_first, left_at, right_at, node_count, levels_size};
@@ -19,8 +19,8 @@ use subtree_levels::collapse::collapse_chunks;
 use subtree_levels::levels::{LevelNodes, copy_levels, count_nodes, left_at, right_at, top};
 use xet_hash::data_hash::MerkleHash;
 use xet_roots::aggregated_hashes::Node;
+use xet_roots::as_node::{AsNode, total_size_of};
 use xet_roots::error::CoreError;
-use xet_roots::groups::total_size;
 
 /// What is known of the tree over a list of chunks without the chunks before and after it. On each level it keeps the
 /// nodes on either side whose groups may still change. The start of the list is marked if no chunk comes before it, and
@@ -75,7 +75,25 @@ impl<A: Allocator + Clone> MerkleHashSubtree<A> {
         ensures overflow { IsErrOf result CoreError.SizeOverflow ↔ (2 ^ 64 ≤ total_size chunks.now) }
         ensures errors { IfErr result (λ e. (e ≡ CoreError.SizeOverflow) ⊎ (e ≡ CoreError.OutOfMemory)) }
     {
-        let Some(size) = total_size(chunks) else {
+        Self::from_chunks_of(alloc, at_start, chunks, at_end)
+    }
+
+    /// Does the same as [`from_chunks`](Self::from_chunks) for chunks in a form of the caller's own. It reads them piece
+    /// by piece, and copies only those that stay.
+    pub fn from_chunks_of<T: AsNode>(
+        alloc: A,
+        at_start: bool,
+        chunks: &[T],
+        at_end: bool,
+    ) -> Result<Self, CoreError>
+        ensures canonical { IfOk result (λ subtree. IsCanonical subtree (map T.node_of chunks.now)) }
+        ensures start { IfOk result (λ subtree. subtree.at_start ≡ at_start) }
+        ensures end { IfOk result (λ subtree. subtree.at_end ≡ at_end) }
+        ensures size { IfOk result (λ subtree. levels_size subtree.levels ≡ total_size (map T.node_of chunks.now)) }
+        ensures overflow { IsErrOf result CoreError.SizeOverflow ↔ (2 ^ 64 ≤ total_size (map T.node_of chunks.now)) }
+        ensures errors { IfErr result (λ e. (e ≡ CoreError.SizeOverflow) ⊎ (e ≡ CoreError.OutOfMemory)) }
+    {
+        let Some(size) = total_size_of(chunks) else {
             return Err(CoreError::SizeOverflow);
         };
         let levels = collapse_chunks(alloc, chunks, at_start, at_end)?;

@@ -1,8 +1,10 @@
 use Rattle.std.proofs.Common.{◌≡◌, ◌+◌, List, [], ◌∷◌, ◌++◌, length, sym, ap, subst, ◌∙◌, append_assoc, append-nil, arith}
+use Rattle.std.proofs.lemmas.List.{map-id}
 use Rattle.xet_roots.specs.Groups.{Node}
 use Rattle.xet_roots.specs.Roots.{parent_by}
 use Rattle.subtree_levels.specs.Levels.{Level}
 use Rattle.subtree_levels.specs.Canonical.{IsSplit}
+use Rattle.subtree_levels.proofs.Canonical.Splits.{plain_split}
 use Rattle.subtree_levels.proofs.Canonical.Collapsing.{middle_fits, parents_fit, parents_half, stand_start, stand_whole, stand_more}
 use Rattle.subtree_levels.proofs.collapse.collapse.Goals as goal
 
@@ -19,23 +21,26 @@ collapsing-init g c = record {
 
 pub collapse_middle-requires : goal.collapse_middle-requires
 collapse_middle-requires g c =
+    let plain = plain_split c.args.marks.at_start c.args.marks.at_end c.deref.result.now c.in-Some.split.left.now c.in-Some.split.middle.now c.in-Some.split.right.now c.in-Some.ensures.split in
     let split = subst (λ (nodes : List Node). IsSplit c.args.marks.at_start c.args.marks.at_end nodes c.in-Some.split.left.now c.in-Some.split.middle.now c.in-Some.split.right.now)
-    c.deref.ensures.value c.in-Some.ensures.split in
+    c.deref.ensures.value plain in
     let room = c.collapsing.invariant.room in
     record { fits = middle_fits _ _ _ _ _ _ split c.collapsing.invariant.fits; room = omega arith }
 
 pub collapsing-smaller : goal.collapsing-smaller
 collapsing-smaller g c =
+    let plain = plain_split c.args.marks.at_start c.args.marks.at_end c.deref.result.now c.in-Some.split.left.now c.in-Some.split.middle.now c.in-Some.split.right.now c.in-Some.ensures.split in
     let split = subst (λ (nodes : List Node). IsSplit c.args.marks.at_start c.args.marks.at_end nodes c.in-Some.split.left.now c.in-Some.split.middle.now c.in-Some.split.right.now)
-    c.deref.ensures.value c.in-Some.ensures.split in
+    c.deref.ensures.value plain in
     let half = parents_half _ _ _ _ _ _ split (parent_by g.P.ParentMaker.hash_of) _ c.in_ok-levels.ensures.parents in
     let several = split.several in
     omega arith
 
 pub collapsing-preserved : goal.collapsing-preserved
 collapsing-preserved g c =
+    let plain = plain_split c.args.marks.at_start c.args.marks.at_end c.deref.result.now c.in-Some.split.left.now c.in-Some.split.middle.now c.in-Some.split.right.now c.in-Some.ensures.split in
     let split = subst (λ (nodes : List Node). IsSplit c.args.marks.at_start c.args.marks.at_end nodes c.in-Some.split.left.now c.in-Some.split.middle.now c.in-Some.split.right.now)
-    c.deref.ensures.value c.in-Some.ensures.split in
+    c.deref.ensures.value plain in
     let make = parent_by g.P.ParentMaker.hash_of in
     let below = c.collapsing.invariant.below in
     let done = c.collapsing.invariant.done in
@@ -63,7 +68,7 @@ returns g c =
     let top : Level = record { left = nodes; right = [] } in
     let new : c.new-2.result ≡ top = c.new-2.ensures ∙ ap (λ (l : List Node). record { left = nodes; right = l }) c.new.ensures.items in
     let none : (left middle right : List Node) → ¬ (IsSplit c.args.marks.at_start c.args.marks.at_end nodes left middle right) =
-    subst (λ (l : List Node). (left middle right : List Node) → ¬ (IsSplit c.args.marks.at_start c.args.marks.at_end l left middle right)) c.deref.ensures.value c.in_default.ensures.none in
+    subst (λ (l : List Node). (left middle right : List Node) → ¬ (IsSplit c.args.marks.at_start c.args.marks.at_end l left middle right)) c.deref.ensures.value (rw (map-id c.deref.result.now) at c.in_default.ensures.none) in
     let count = c.collapsing.invariant.count in (
       below ++ top ∷ [],
       done + 0,

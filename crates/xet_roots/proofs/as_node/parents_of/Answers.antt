@@ -56,8 +56,11 @@ push_parents-requires-clause-fits g c =
     c.deref-2.ensures.value ∙ c.in_ok-read_piece-2.ensures ∙ ap (map g.T.AsNode.node_of) (take_all 576 rest (omega arith)) in
     rw all (omega (arith, c.pieces.invariant.fits, c.requires.fits))
 
-pub returns : goal.returns
-returns g c =
+pub returns-clause-count : goal.returns-clause-count
+returns-clause-count g c = omega (arith, c.pieces.invariant.count, c.in_ok-push_parents.ensures.count)
+
+pub returns-clause-parents : goal.returns-clause-parents
+returns-clause-parents g c =
     let node = g.T.AsNode.node_of in
     let make = parent_by g.P.ParentMaker.hash_of in
     let rest = c.pieces.rest.now in

@@ -6,7 +6,7 @@ use Rattle.xet_roots.proofs.Roots.Making.{total_size-are_parents, IsRoot-from_pa
 use Rattle.xet_roots.proofs.as_node.xorb_hash_of.Goals as goal
 
 pub root-requires-clause-fits : goal.root-requires-clause-fits
-root-requires-clause-fits g c = rw (total_size-are_parents parent_hash _ _ c.in_ok-parents_of-in_default.ensures) (search rules)
+root-requires-clause-fits g c = rw (total_size-are_parents parent_hash _ _ c.in_ok-parents_of-in_default.ensures.parents) (search rules)
 
 pub returns-in-empty-clause-root : goal.returns-in-empty-clause-root
 returns-in-empty-clause-root g c =
@@ -21,4 +21,4 @@ returns-in-len1-clause-root g c =
 
 pub returns-in_ok-parents_of-in_default-clause-root : goal.returns-in_ok-parents_of-in_default-clause-root
 returns-in_ok-parents_of-in_default-clause-root g c =
-    IsRoot-from_parents _ _ _ c.in_ok-parents_of-in_default.ensures (omega (arith, length-map c.args.chunks.now g.T.AsNode.node_of)) c.root.ensures
+    IsRoot-from_parents _ _ _ c.in_ok-parents_of-in_default.ensures.parents (omega (arith, length-map c.args.chunks.now g.T.AsNode.node_of)) c.root.ensures

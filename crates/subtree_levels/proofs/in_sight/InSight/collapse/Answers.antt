@@ -1,4 +1,5 @@
 use Rattle.std.proofs.Common.{◌≡◌, ℕ, ◌+◌, ◌^◌, ◌<◌, ◌≤◌, List, length, sym, ap, subst, ◌∙◌}
+use Rattle.std.proofs.lemmas.List.{map-id}
 use Rattle.xet_roots.specs.Groups.{Node}
 use Rattle.xet_roots.specs.Roots.{total_size, parent_by}
 use Rattle.subtree_levels.specs.Levels.{Level}
@@ -33,7 +34,7 @@ module _ (shown sight : Sight) (view : shown ≡ sight) (nodes : List Node) wher
 pub collapse_slice-requires-clause-fits : goal.collapse_slice-requires-clause-fits
 collapse_slice-requires-clause-fits g c =
     let is = front_seen _ c.args.self.now c.self.view_is c.inner.result.now c.inner.ensures (c.is_front_alone.ensures c.if-is_front_alone.true) in
-    seen_fits _ c.args.self.now c.self.view_is c.inner.result.now is c.requires.fits
+    rw (map-id c.inner.result.now) (seen_fits _ c.args.self.now c.self.view_is c.inner.result.now is c.requires.fits)
 
 pub collapse_slice-requires-clause-room : goal.collapse_slice-requires-clause-room
 collapse_slice-requires-clause-room g c =
@@ -43,7 +44,8 @@ collapse_slice-requires-clause-room g c =
 pub returns-then-is_front_alone : goal.returns-then-is_front_alone
 returns-then-is_front_alone g c =
     let is = front_seen _ c.args.self.now c.self.view_is c.inner.result.now c.inner.ensures (c.is_front_alone.ensures c.if-is_front_alone.true) in
-    seen_collapsed _ c.args.self.now c.self.view_is c.inner.result.now (parent_by g.P.ParentMaker.hash_of) _ _ _ _ is c.in_ok-collapse_slice.ensures
+    seen_collapsed _ c.args.self.now c.self.view_is c.inner.result.now (parent_by g.P.ParentMaker.hash_of) _ _ _ _ is
+    (rw (map-id c.inner.result.now) at c.in_ok-collapse_slice.ensures)
 
 pub collapse-requires-clause-fits : goal.collapse-requires-clause-fits
 collapse-requires-clause-fits g c = seen_fits _ c.args.self.now c.self.view_is c.in_ok-nodes.field-0.items c.in_ok-nodes.ensures c.requires.fits
