@@ -4,8 +4,8 @@
  *
  * The bounds are half as much again as is asked for:
  *
- * - A node has 40 bytes. Calls copy the list that they get, except for its root, its subtree and its stable points. The parents of n nodes
- *   are at most n / 3, and those of parents are made in their place.
+ * - A node has 40 bytes. Calls copy the list that they get once, or not at all for its root, its subtree and its stable points. The
+ *   parents of n nodes are at most n / 3, and those of parents are made in their place.
  * - A subtree of random chunks keeps a few nodes a level. Without natural cuts it keeps all.
  * - A hash tree keeps all nodes of all levels.
  * - The JSON of a subtree is written to one text, and what was written so is read without a tree of values, and written again. Other JSON
@@ -495,7 +495,7 @@ static const struct {
     {"to_json", text, to_json, 0, 160},
     {"from_json", text, from_json, 0, 330},
     {"from_flat", flat, from_flat, 0, 120},
-    {"hash_tree_from_chunks", nothing, tree, 0, 160},
+    {"hash_tree_from_chunks", nothing, tree, 0, 100},
     {"hash_tree_proof of one chunk", tree, proof_of_one_again, 0, 0},
     {"hash_tree_proof of all", tree, proof_of_all_again, 0, 120},
     {"hash_tree_chunks_at", tree, chunks_at, 0, 0},

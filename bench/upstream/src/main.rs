@@ -3,7 +3,7 @@
 use driver::drawn::{self, Cuts};
 use driver::rows::{Row, Task, HEAD};
 
-const SIZES: [(&str, usize); 3] = [("10^3", 1_000), ("10^4", 10_000), ("10^6", 1_000_000)];
+const SIZES: [(&str, usize); 4] = [("30", 30), ("10^3", 1_000), ("10^4", 10_000), ("10^6", 1_000_000)];
 
 /// A chunk's hash, as its words, and its size.
 type Chunk = ([u64; 4], u64);

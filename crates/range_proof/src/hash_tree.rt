@@ -1,6 +1,6 @@
 //! The hash tree over a list of chunks, which makes range proofs.
 
-ghost use Rattle.std.specs.Prelude.{◌≡◌, ℕ, ◌+◌, ◌^◌, ◌<◌, ◌≤◌, ◌↔◌, ◌⊎◌, min, length, take, IfOk, IfErr, IfSome, IfNone, IsErrOf, SomeIff};
+ghost use Rattle.std.specs.Prelude.{◌≡◌, ℕ, ◌+◌, ◌^◌, ◌<◌, ◌≤◌, ◌↔◌, ◌⊎◌, min, length, map, take, IfOk, IfErr, IfSome, IfNone, IsErrOf, SomeIff};
 ghost use Rattle.xet_roots.specs.Roots.{total_size, IsRoot, IsFileHash};
 ghost use Rattle.range_proof.specs.Differing.{IsCommonPrefix, IsCommonSuffix};
 ghost use Rattle.range_proof.specs.Proving.{Proves, IsRangeOfBytes};
@@ -20,6 +20,7 @@ use std::alloc::{AllocError, Allocator, Global};
 use std::marker::Model;
 use xet_hash::data_hash::MerkleHash;
 use xet_roots::aggregated_hashes::{Node, file_hash_of_root};
+use xet_roots::as_node::{AsNode, read_nodes, total_size_of};
 use xet_roots::error::CoreError;
 use xet_roots::groups::total_size;
 
@@ -57,11 +58,21 @@ impl<A: Allocator + Clone> HashTree<A> {
         ensures overflow { IsErrOf result CoreError.SizeOverflow ↔ (2 ^ 64 ≤ total_size chunks.now) }
         ensures errors { IfErr result (λ e. (e ≡ CoreError.SizeOverflow) ⊎ (e ≡ CoreError.OutOfMemory)) }
     {
-        if total_size(chunks).is_none() {
+        Self::from_chunks_of(alloc, chunks)
+    }
+
+    /// Does the same as [`from_chunks`](Self::from_chunks) for chunks in a form of the caller's own. It copies them once.
+    pub fn from_chunks_of<T: AsNode>(alloc: A, chunks: &[T]) -> Result<Self, CoreError>
+        ensures chunks { IfOk result (λ tree. tree ≡ map T.node_of chunks.now) }
+        ensures overflow { IsErrOf result CoreError.SizeOverflow ↔ (2 ^ 64 ≤ total_size (map T.node_of chunks.now)) }
+        ensures errors { IfErr result (λ e. (e ≡ CoreError.SizeOverflow) ⊎ (e ≡ CoreError.OutOfMemory)) }
+    {
+        if total_size_of(chunks).is_none() {
             return Err(CoreError::SizeOverflow);
         }
-        let (levels, top) = make_levels(alloc.clone()?, chunks)?;
-        let places = places(alloc, 0, chunks)?;
+        let nodes = read_nodes(alloc.clone()?, chunks)?;
+        let places = places(alloc.clone()?, 0, &nodes)?;
+        let (levels, top) = make_levels(alloc, nodes)?;
         Ok(HashTree {
             levels,
             top,

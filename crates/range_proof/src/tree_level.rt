@@ -120,13 +120,13 @@ impl<A: Allocator + Clone> TreeLevel<A> {
 // Returns the levels of two nodes or more over some nodes, and what is above them: at most one node.
 pub(crate) fn make_levels<A: Allocator + Clone>(
     alloc: A,
-    chunks: &[Node],
+    chunks: Vec<Node, A>,
 ) -> Result<(Vec<TreeLevel<A>, A>, Vec<Node, A>), AllocError>
-    requires { total_size chunks.now < 2 ^ 64 }
-    ensures { IfOk result (λ made. IsTree made.0.items made.1.items chunks.now) }
+    requires { total_size chunks.items < 2 ^ 64 }
+    ensures { IfOk result (λ made. IsTree made.0.items made.1.items chunks.items) }
 {
     let mut levels = Vec::new(alloc.clone()?);
-    let mut nodes = chunks.to_vec(alloc.clone()?)?;
+    let mut nodes = chunks;
     'levels: while nodes.len() > 1 {
         let above = parents(alloc.clone()?, &nodes, &mut ParentHashes::new())?;
         levels.push(TreeLevel::new(alloc.clone()?, nodes)?)?;

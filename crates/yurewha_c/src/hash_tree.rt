@@ -9,7 +9,7 @@ ghost use Rattle.yurewha_c.specs.Chunks.{nodes_of};
 ghost use Rattle.yurewha_c.specs.Handles.{Reads, ReadsBoth};
 ghost use Rattle.yurewha_c.specs.ProofLists.{WritesProof};
 
-use crate::chunks::{Chunk, sizes_fit};
+use crate::chunks::Chunk;
 use crate::hash::{Bytes, Hash};
 use crate::hash_tree_handle::HashTreeHandle;
 use crate::proof_lists::write_proof;
@@ -17,7 +17,6 @@ use crate::status::{ARGUMENTS, DONE, EMPTY_HANDLE, MEMORY, ROOM, SIZES, status_o
 use crate::subtree_flat::Level;
 use range_proof::HashTree;
 use std::alloc::Global;
-use xet_merkle::as_node::read_nodes;
 
 /// Makes the hash tree over some chunks, and writes it to the handle, which owns it.
 ///
@@ -37,13 +36,7 @@ pub extern "C" fn yurewha_hash_tree_from_chunks(
     ensures statuses { (result ≡ DONE) ⊎ ((result ≡ SIZES) ⊎ (result ≡ MEMORY)) }
     ensures unchanged { result ≢ DONE → tree.new.value ≡ tree.old.value }
 {
-    if !sizes_fit(chunks) {
-        return SIZES;
-    }
-    let Ok(nodes) = read_nodes(alloc, chunks) else {
-        return MEMORY;
-    };
-    match HashTree::from_chunks(alloc, &nodes) {
+    match HashTree::from_chunks_of(alloc, chunks) {
         Ok(made) => tree.hold(alloc, made),
         Err(error) => status_of(error),
     }

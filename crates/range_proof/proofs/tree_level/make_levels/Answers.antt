@@ -1,4 +1,4 @@
-use Rattle.std.proofs.Common.{◌≡◌, List, [], ◌∷◌, ◌++◌, length, sym, ap, subst, ◌∙◌, arith, rules}
+use Rattle.std.proofs.Common.{◌≡◌, List, [], ◌∷◌, ◌++◌, length, refl, sym, ap, subst, ◌∙◌, arith, rules}
 use Rattle.xet_roots.specs.Groups.{Node}
 use Rattle.xet_roots.specs.Roots.{parent}
 use Rattle.xet_roots.specs.Steps.Scan.{AreParents}
@@ -8,8 +8,7 @@ use Rattle.range_proof.proofs.tree_level.make_levels.Goals as goal
 
 pub levels-init : goal.levels-init
 levels-init g c =
-    IsGrown-none c.args.chunks.now c.new-levels.result.items c.in_ok-nodes.nodes.items c.new-levels.ensures.items
-    (c.in_ok-nodes.ensures.items_if_clones_equal (λ x y e i. (e.0 i, e.1 i)))
+    IsGrown-none c.args.chunks.items c.new-levels.result.items c.args.chunks.items c.new-levels.ensures.items refl
 
 pub levels-preserved : goal.levels-preserved
 levels-preserved g c =
@@ -18,8 +17,8 @@ levels-preserved g c =
     let made : AreParents parent c.levels.nodes.items above = subst (λ (l : List Node). AreParents parent l above) c.deref.ensures.value c.in_ok-above.ensures.parents in
     let pushed : c.push.new.self.items ≡ c.levels.levels.items ++ c.in_ok-new.field-0 ∷ [] = search rules in
     let level : c.in_ok-new.field-0 ≡ c.levels.nodes.items = c.in_ok-new.ensures in
-    subst (λ (l : List (List Node)). IsGrown c.args.chunks.now l above) (sym (pushed ∙ ap (λ (l : List Node). c.levels.levels.items ++ l ∷ []) level))
-    (IsGrown-more c.args.chunks.now c.levels.levels.items c.levels.nodes.items above (omega arith) c.levels.invariant made)
+    subst (λ (l : List (List Node)). IsGrown c.args.chunks.items l above) (sym (pushed ∙ ap (λ (l : List Node). c.levels.levels.items ++ l ∷ []) level))
+    (IsGrown-more c.args.chunks.items c.levels.levels.items c.levels.nodes.items above (omega arith) c.levels.invariant made)
 
 pub levels-smaller : goal.levels-smaller
 levels-smaller g c =
@@ -31,4 +30,4 @@ levels-smaller g c =
 pub returns : goal.returns
 returns g c =
     let few = c.levels-test.false in
-    IsGrown-all c.args.chunks.now c.levels.levels.items c.levels.nodes.items (omega arith) c.levels.invariant
+    IsGrown-all c.args.chunks.items c.levels.levels.items c.levels.nodes.items (omega arith) c.levels.invariant

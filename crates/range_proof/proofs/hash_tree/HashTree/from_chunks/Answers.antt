@@ -1,12 +1,8 @@
-use Rattle.std.proofs.Common.{◌<◌, ◌^◌, rules}
-use Rattle.xet_roots.specs.Roots.{total_size}
-use Rattle.range_proof.proofs.TreeOf.{IsKept-from, lowest_is}
+use Rattle.std.proofs.lemmas.List.{map-id}
 use Rattle.range_proof.proofs.hash_tree.HashTree.from_chunks.Goals as goal
 
-pub invariant_of-result : goal.invariant_of-result
-invariant_of-result g c =
-    let fits : total_size c.args.chunks.now < 2 ^ 64 = search rules in
-    IsKept-from c.in_ok-levels.levels.items c.in_ok-levels.top.items c.args.chunks.now c.in_ok-places.places.items c.in_ok-levels.ensures c.in_ok-places.ensures fits
-
 pub returns-clause-chunks : goal.returns-clause-chunks
-returns-clause-chunks g c = lowest_is c.in_ok-levels.levels.items c.in_ok-levels.top.items c.args.chunks.now c.in_ok-levels.ensures
+returns-clause-chunks g c = rw (map-id c.args.chunks.now) at c.from_chunks_of.ensures.chunks
+
+pub returns-clause-overflow : goal.returns-clause-overflow
+returns-clause-overflow g c = rw (map-id c.args.chunks.now) at c.from_chunks_of.ensures.overflow
