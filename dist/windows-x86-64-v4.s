@@ -1,5 +1,5 @@
 /* Yurewha 1.1.0 for windows-x86-64-v4: the kernels of the proved library, as the toolchain compiles it. Made by dist/make, not by hand.
-   The sum of its sources: 9e5dbdc1efb3d984e859dfa4fdda51d8c2cb9f166cad2b2ce52eeaca88b6c28d */
+   The sum of its sources: b5ebd5c195da9005d6bdfd538f10fc2ca3f87ff0204b399885db7c5ef6529a55 */
 	.section	.text
 	.p2align	4
 	.def	"keyed_blake3::keyed_hash";
