@@ -5,6 +5,7 @@ import { chunksOf, draw, element, plural } from "./picture.js";
 import { Ranges } from "./ranges.js";
 
 const MOST_CHUNKS = 500;
+const FIRST_RANGES = 4;
 const RANDOM_CUTS = 5;
 const STEP_MS = 600;
 const FAULT = "Another root: this build is faulty.";
@@ -45,15 +46,17 @@ export class Merging {
         return this.#yurewha.Chunks.from(Array.from({ length: Number(get("count").value) }, chunk));
     }
 
-    /** Begins with a list in one range. */
+    /** Begins with a list, which is cut so that there is something to merge. */
     #show(chunks) {
         if (chunks.length > MOST_CHUNKS) throw new Error(`the page shows at most ${MOST_CHUNKS} chunks`);
         const made = new Ranges(this.#yurewha, chunks);
         this.#ranges?.free();
         this.#ranges = made;
+        const places = Array.from({ length: FIRST_RANGES - 1 }, (_, k) => Math.floor(((k + 1) * chunks.length) / FIRST_RANGES));
+        made.cutAt([...new Set(places)].filter((place) => place > 0));
         get("history").replaceChildren();
         get("no-history").hidden = false;
-        this.#say(`${plural(chunks.length, "chunk")} in one range.`);
+        this.#say(`${plural(chunks.length, "chunk")} in ${plural(made.ranges.length, "range")}.`);
     }
 
     /** Says what was done, and draws what is there now. */

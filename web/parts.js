@@ -12,6 +12,7 @@ const numberOf = (id) => Number(get(id).value);
 /** What a server keeps of a file: its bytes, cut into chunks of one length, and their tree. */
 class Server {
     constructor(yurewha, data, length) {
+        if (!Number.isInteger(length) || length < 1) throw new Error("a chunk has a whole number of bytes, and at least one");
         const count = Math.ceil(data.length / length);
         if (count > MOST_CHUNKS) throw new Error(`the page makes at most ${MOST_CHUNKS} chunks of a file`);
         const offsets = Array.from({ length: count + 1 }, (_, k) => Math.min(k * length, data.length));
@@ -81,15 +82,17 @@ export class Parts {
     #yurewha;
     #report;
     #server = null;
+    /** How many files were chosen. */
+    #choices = 0;
 
     constructor(yurewha, report) {
         this.#yurewha = yurewha;
         this.#report = report;
-        this.#on("make-file", "submit", () => this.#serve(this.#made()));
+        this.#on("make-file", "submit", () => this.#make());
         this.#on("read-part", "submit", () => this.#read());
         this.#on("change", "change", () => this.#read());
-        get("part-of").addEventListener("change", ({ target }) => target.files.length > 0 && this.#pick(target.files[0]));
-        this.#serve(this.#made());
+        get("part-of").addEventListener("change", ({ target }) => this.#pick(target.files[0]));
+        this.#make();
     }
 
     #on(id, kind, run) {
@@ -99,17 +102,41 @@ export class Parts {
         });
     }
 
-    /** Reads a file of the user's, and begins with it. */
+    /** Reads a file of the user's, if there is one, and begins with it, unless another one was chosen meanwhile. */
     async #pick(file) {
+        this.#report(() => this.#clear());
+        const choice = this.#choices;
+        const end = (run) => choice === this.#choices && this.#report(run);
         try {
-            if (file.size > MOST_BYTES) throw new Error(`the file has more than ${MOST_BYTES} bytes`);
-            const data = new Uint8Array(await file.arrayBuffer());
-            this.#report(() => this.#serve(data));
+            if (file?.size > MOST_BYTES) throw new Error(`the file has more than ${MOST_BYTES} bytes`);
+            const data = await file?.arrayBuffer();
+            end(() => data && this.#serve(new Uint8Array(data)));
         } catch (error) {
-            this.#report(() => {
+            end(() => {
                 throw error;
             });
         }
+    }
+
+    /** Begins with a file of the page's own. */
+    #make() {
+        this.#clear();
+        get("part-of").value = "";
+        this.#serve(this.#made());
+    }
+
+    /** Gives up the file, also one that is still read, and takes away what was shown of it. */
+    #clear() {
+        this.#choices++;
+        this.#server?.free();
+        this.#server = null;
+        for (const id of ["part-file-hash", "part-file-size"]) get(id).textContent = "";
+        this.#clearPart();
+    }
+
+    #clearPart() {
+        for (const id of ["sent", "part-verdict", "part-bytes", "path"]) get(id).replaceChildren();
+        get("path").removeAttribute("aria-label");
     }
 
     /** Lines with their numbers, as many bytes as are asked for. */
@@ -119,21 +146,22 @@ export class Parts {
         return new TextEncoder().encode(lines.join("")).subarray(0, length);
     }
 
-    /** Begins with a file. */
+    /** Begins with a file. Of an empty one there is nothing to read. */
     #serve(data) {
-        const server = new Server(this.#yurewha, data, numberOf("chunk-length"));
-        this.#server?.free();
-        this.#server = server;
-        const { tree } = server;
+        this.#server = new Server(this.#yurewha, data, numberOf("chunk-length"));
+        const { tree } = this.#server;
         get("part-file-hash").textContent = tree.fileHash().hex();
-        get("part-file-size").textContent = `${plural(Number(tree.totalSize), "byte")} in ${plural(tree.numChunks, "chunk")}`;
-        get("to").max = get("from").max = data.length;
+        get("part-file-size").textContent = `${plural(data.length, "byte")} in ${plural(tree.numChunks, "chunk")}`;
+        const last = Math.max(data.length - 1, 0);
+        get("to").max = get("from").max = last;
+        if (numberOf("from") > last) [get("from").value, get("to").value] = [0, Math.min(99, last)];
         if (data.length > 0) this.#read();
     }
 
     #read() {
-        for (const id of ["sent", "part-verdict", "part-bytes", "path"]) get(id).replaceChildren();
-        const asked = [numberOf("from"), numberOf("to")];
+        this.#clearPart();
+        if (!this.#server) throw new Error("there is no file yet");
+        const asked = [numberOf("from"), numberOf("to") + 1];
         const answer = CHANGES[get("change").value](this.#yurewha, this.#server.answer(...asked));
         const result = read(this.#server.tree.fileHash(), asked, answer);
         this.#say(answer, asked, result);
@@ -144,7 +172,7 @@ export class Parts {
         const sent = `${plural(data.length, "byte")} of ${plural(end - first, "chunk")}, and a proof of ${plural(proof.toFlat().nodes.length, "node")}`;
         get("sent").textContent = `${sent} (${plural(proof.toJSON().length, "byte")} of JSON).`;
         get("part-verdict").className = refused ? "other" : "same";
-        get("part-verdict").textContent = refused ?? `Accepted: these are bytes ${from} to ${stop} of a file of ${fileSize} bytes.`;
+        get("part-verdict").textContent = refused ?? `Accepted: these are bytes ${from} to ${stop - 1} of a file of ${fileSize} bytes.`;
         const shown = bytes ? new TextDecoder().decode(bytes.subarray(0, MOST_SHOWN)) : "";
         const more = bytes?.length > MOST_SHOWN ? [element("span", { class: "figures" }, ` and ${bytes.length - MOST_SHOWN} more`)] : [];
         get("part-bytes").replaceChildren(shown, ...more);

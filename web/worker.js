@@ -16,10 +16,8 @@ async function hashOf(yurewha, file, passed) {
     return yurewha.hashStream(file.stream().pipeThrough(counted));
 }
 
-/** The chunks of a file, with a name for each: the whole file, or what stands between the cuts that a text says. */
-function piecesOf(file, text) {
-    const words = text.split(/[\s,;]+/).filter(Boolean);
-    if (words.length === 0) return [{ name: file.name, data: file }];
+/** The chunks of a file between the cuts that words say, with a name for each. */
+function piecesOf(file, words) {
     const cuts = words.map((word) => (/^[0-9]+$/.test(word) ? Number(word) : NaN));
     const offsets = [...(cuts[0] === 0 ? [] : [0]), ...cuts, ...(cuts.at(-1) === file.size ? [] : [file.size])];
     if (!offsets.every((offset, k) => k === 0 || offset > offsets[k - 1])) {
@@ -29,24 +27,41 @@ function piecesOf(file, text) {
     return ends.map((end, k) => ({ name: `${file.name} from ${offsets[k]}`, data: file.slice(offsets[k], end) }));
 }
 
-async function hashChunks(yurewha, files, cuts) {
-    if (cuts.trim() !== "" && files.length > 1) throw new Error("the cuts are those of one file: choose one, or leave the cuts empty");
-    const total = files.reduce((sum, file) => sum + file.size, 0);
-    const pairs = [];
-    let done = 0;
-    let told = 0;
-    const passed = (length) => {
+/** What gets the lengths of pieces, and tells now and then which share of all bytes passed. */
+function progressOf(total) {
+    let [done, told] = [0, 0];
+    return (length) => {
         done += length;
         if (done - told < total / 200) return;
         told = done;
         postMessage({ kind: "progress", share: done / total });
     };
-    for (const { name, data } of files.flatMap((file) => piecesOf(file, cuts))) {
+}
+
+/** Files, each of which is cut as Xet does. */
+async function hashFiles(yurewha, files) {
+    const passed = progressOf(files.reduce((sum, file) => sum + file.size, 0));
+    for (const file of files) {
+        const chunks = [];
+        for await (const chunk of yurewha.chunksOf(file)) {
+            chunks.push(chunk);
+            passed(chunk[1]);
+        }
+        postMessage({ kind: "file", name: file.name, size: file.size, count: chunks.length, hash: yurewha.fileHash(chunks).hex() });
+    }
+    postMessage({ kind: "done" });
+}
+
+async function hashChunks(yurewha, files, words) {
+    if (files.length > 1) throw new Error("the cuts are those of one file: choose one, or leave the cuts empty");
+    const passed = progressOf(files[0].size);
+    const pairs = [];
+    for (const { name, data } of piecesOf(files[0], words)) {
         const hash = await hashOf(yurewha, data, passed);
         pairs.push([hash, data.size]);
         postMessage({ kind: "chunk", name, size: data.size, hash: hash.hex() });
     }
-    return yurewha.Chunks.from(pairs);
+    tellRoots(yurewha, yurewha.Chunks.from(pairs));
 }
 
 async function readPairs(yurewha, file) {
@@ -54,15 +69,22 @@ async function readPairs(yurewha, file) {
     postMessage({ kind: "progress", share: 0.1 });
     const text = await file.text();
     postMessage({ kind: "progress", share: 0.5 });
-    return chunksOfLines(yurewha, text);
+    tellRoots(yurewha, chunksOfLines(yurewha, text));
 }
 
-addEventListener("message", async ({ data }) => {
+function tellRoots(yurewha, chunks) {
+    const [root, file] = [yurewha.xorbHash(chunks), yurewha.fileHash(chunks)].map((hash) => hash.hex());
+    postMessage({ kind: "roots", count: chunks.length, root, file });
+    postMessage({ kind: "done" });
+}
+
+addEventListener("message", async ({ data: { kind, file, files, cuts } }) => {
     try {
         const yurewha = await loaded();
-        const chunks = data.kind === "chunks" ? await hashChunks(yurewha, data.files, data.cuts) : await readPairs(yurewha, data.file);
-        const [root, file] = [yurewha.xorbHash(chunks), yurewha.fileHash(chunks)].map((hash) => hash.hex());
-        postMessage({ kind: "roots", count: chunks.length, root, file });
+        const words = cuts?.split(/[\s,;]+/).filter(Boolean) ?? [];
+        if (kind === "pairs") await readPairs(yurewha, file);
+        else if (words.length === 0) await hashFiles(yurewha, files);
+        else await hashChunks(yurewha, files, words);
     } catch (error) {
         postMessage({ kind: "error", text: error.message });
     }

@@ -8,16 +8,19 @@
  *   parents of n nodes are at most n / 3, and those of parents are made in their place.
  * - A subtree of random chunks keeps a few nodes a level. Without natural cuts it keeps all.
  * - A hash tree keeps all nodes of all levels.
+ * - A hasher of a file keeps a range of its first chunks, and the nodes of at most 4096 after them in a list that grows by doubling. Its
+ *   root copies both. The file has no stable point, so the range keeps all nodes.
+ * - A table of hashes grows by doubling.
  * - The JSON of a subtree is written to one text, and what was written so is read without a tree of values, and written again. Other JSON
  *   is read and written by way of a tree of values, with four requests for each node.
  */
 #include "harness.h"
 
-enum { FEW = 1000, MANY = 10000, CHUNK = 10, LEVELS = 64, ROOM = MANY + 1024 };
+enum { FEW = 1000, MANY = 10000, CHUNK = 10, LEVELS = 64, ROOM = MANY + 1024, CUT = 3 * 2731 };
 static const size_t sizes[] = {FEW, MANY};
 
 /* The requests and bytes that may be asked for whatever the number of chunks. */
-enum { FEW_REQUESTS = 60, FEW_BYTES = 20000 };
+enum { FEW_REQUESTS = 120, FEW_BYTES = 20000 };
 
 /* A list, and what calls are made on. Chunk i has the bytes from 10 * i on. */
 static struct list {
@@ -28,10 +31,15 @@ static struct list {
     yurewha_hash root;
     yurewha_subtree front, back, *ranges;
     yurewha_session session;
+    yurewha_hash_index index;
+    yurewha_hash *hashes; /* of the chunks */
+    uint64_t *numbers;
     yurewha_hash_tree tree;
     yurewha_opened_range opened;
     yurewha_part part;
     yurewha_reader reader;
+    yurewha_file_hasher hasher;
+    uint8_t cut[CUT]; /* a chunk of the file that is hashed, which has no others */
     yurewha_level levels[LEVELS];
     yurewha_chunk nodes[ROOM];
     size_t level_count, node_count, length;
@@ -59,15 +67,19 @@ static void unmake(void)
     yurewha_subtree_free(&it.front);
     yurewha_subtree_free(&it.back);
     yurewha_session_free(&it.session);
+    yurewha_hash_index_free(&it.index);
     yurewha_hash_tree_free(&it.tree);
     yurewha_opened_range_free(&it.opened);
     yurewha_part_free(&it.part);
     yurewha_reader_free(&it.reader);
+    yurewha_file_hasher_free(&it.hasher);
     free(it.ranges);
     free(it.text);
     free(it.bytes);
     free(it.chunks);
     free(it.plain);
+    free(it.hashes);
+    free(it.numbers);
 }
 
 /* ---- What is made before a call */
@@ -255,6 +267,57 @@ static void many_runs(void)
     EXPECT_STATUS(YUREWHA_DONE, yurewha_session_new(&it.session));
     for (size_t i = 0; i < it.count; i++)
         put(2 * i, &it.chunks[i], 1);
+}
+
+static void hashes(void)
+{
+    it.hashes = block(it.count * sizeof *it.hashes);
+    it.numbers = block(it.count * sizeof *it.numbers);
+    for (size_t i = 0; i < it.count; i++) {
+        it.hashes[i] = it.chunks[i].hash;
+        it.numbers[i] = i;
+    }
+}
+
+static void index_of_none(void)
+{
+    hashes();
+    EXPECT_STATUS(YUREWHA_DONE, yurewha_hash_index_new(&it.index));
+}
+
+static void insert(void)
+{
+    size_t fresh = 0;
+    EXPECT_STATUS(YUREWHA_DONE, yurewha_hash_index_insert(&it.index, it.hashes, it.count, it.numbers, it.count, &fresh));
+}
+
+static void index_of_all(void)
+{
+    index_of_none();
+    insert();
+}
+
+static void session_of_none(void)
+{
+    hashes();
+    EXPECT_STATUS(YUREWHA_DONE, yurewha_session_new(&it.session));
+}
+
+static void keep_hashes(void) { EXPECT_STATUS(YUREWHA_DONE, yurewha_session_keep_hashes(&it.session, it.hashes, it.count)); }
+
+static void session_of_hashes(void)
+{
+    session_of_none();
+    keep_hashes();
+}
+
+/* Without a run. */
+static void text_of_session(void)
+{
+    session_of_hashes();
+    EXPECT_STATUS(YUREWHA_ROOM, yurewha_session_to_json(&it.session, true, NULL, 0, &it.length));
+    it.text = block(it.length);
+    EXPECT_STATUS(YUREWHA_DONE, yurewha_session_to_json(&it.session, true, it.text, it.length, &it.length));
 }
 
 static void text(void)
@@ -475,6 +538,94 @@ static void proof_from_bytes(void)
                                                                &it.node_count));
 }
 
+static void insert_one(void)
+{
+    const yurewha_hash hash = {{1, 2, 3, 4}};
+    size_t fresh = 0;
+    EXPECT_STATUS(YUREWHA_DONE, yurewha_hash_index_insert(&it.index, &hash, 1, it.numbers, 1, &fresh));
+    EXPECT(fresh == 1);
+}
+
+static void find(void)
+{
+    uint8_t *found = (uint8_t *)it.nodes;
+    EXPECT_STATUS(YUREWHA_DONE, yurewha_hash_index_find(&it.index, it.hashes, it.count, found, it.count, it.numbers, it.count));
+    EXPECT(found[0] == 1 && memcmp(found, found + 1, it.count - 1) == 0);
+}
+
+static void entries(void)
+{
+    EXPECT_STATUS(YUREWHA_DONE, yurewha_hash_index_entries(&it.index, it.hashes, it.count, it.numbers, it.count));
+}
+
+static void index_len(void)
+{
+    size_t count = 0;
+    EXPECT_STATUS(YUREWHA_DONE, yurewha_hash_index_len(&it.index, &count));
+    EXPECT(count == it.count);
+}
+
+static void knows_each(void)
+{
+    uint8_t *known = (uint8_t *)it.nodes;
+    EXPECT_STATUS(YUREWHA_DONE, yurewha_session_knows_each(&it.session, it.hashes, it.count, known, it.count));
+    EXPECT(known[0] == 1 && memcmp(known, known + 1, it.count - 1) == 0);
+}
+
+/* The bytes 0, 148, 143 again and again end each chunk after the same number of them. */
+static void file_of_none(void)
+{
+    static const uint8_t pattern[] = {0, 148, 143};
+    for (size_t i = 0; i < CUT; i++)
+        it.cut[i] = pattern[i % 3];
+    EXPECT_STATUS(YUREWHA_DONE, yurewha_file_hasher_new(&it.hasher));
+}
+
+static void hash_file(void)
+{
+    for (size_t i = 0; i < it.count; i++)
+        EXPECT_STATUS(YUREWHA_DONE, yurewha_file_hasher_update(&it.hasher, it.cut, CUT));
+}
+
+static void file_of_all(void)
+{
+    file_of_none();
+    hash_file();
+}
+
+static void file_size(void)
+{
+    uint64_t size = 0;
+    EXPECT_STATUS(YUREWHA_DONE, yurewha_file_hasher_size(&it.hasher, &size));
+    EXPECT(size == it.count * CUT);
+}
+
+static void file_root(void) { EXPECT_STATUS(YUREWHA_DONE, yurewha_file_hasher_root(&it.hasher, &it.root)); }
+static void file_finish(void) { EXPECT_STATUS(YUREWHA_DONE, yurewha_file_hasher_finish(&it.hasher, &it.root)); }
+static void file_finish_with_salt(void)
+{
+    EXPECT_STATUS(YUREWHA_DONE, yurewha_file_hasher_finish_with_salt(&it.hasher, &no_salt, &it.root));
+}
+
+static void cut_file(void)
+{
+    yurewha_chunker chunker;
+    yurewha_chunker_begin(&chunker);
+    for (size_t i = 0; i < it.count; i++)
+        EXPECT(yurewha_chunker_next_boundary(&chunker, it.cut, CUT) == CUT);
+    EXPECT(yurewha_chunker_taken(&chunker) == 0);
+}
+
+static void put_all(void) { put(0, it.chunks, it.count); }
+static void session_to_json(void)
+{
+    EXPECT_STATUS(YUREWHA_DONE, yurewha_session_to_json(&it.session, true, it.text, it.length, &it.length));
+}
+static void session_from_json(void)
+{
+    EXPECT_STATUS(YUREWHA_DONE, yurewha_session_from_json(it.text, it.length, true, &it.session));
+}
+
 static const struct {
     const char *name;
     void (*prepare)(void);
@@ -531,6 +682,24 @@ static const struct {
     {"session_total_size", many_runs, session_total_size, 0, 0},
     {"session_next_gap", many_runs, next_gap, 0, 0},
     {"session_knows", many_runs, knows, 0, 0},
+    {"session_put", session_of_none, put_all, 0, 520},
+    {"session_keep_hashes", session_of_none, keep_hashes, 0, 480},
+    {"session_keep_hashes of known ones", session_of_hashes, keep_hashes, 0, 60},
+    {"session_knows_each", session_of_hashes, knows_each, 0, 0},
+    {"session_to_json of hashes", text_of_session, session_to_json, 0, 450},
+    {"session_from_json of hashes", text_of_session, session_from_json, 3, 1450},
+    {"hash_index_insert", index_of_none, insert, 0, 530},
+    {"hash_index_insert of known ones", index_of_all, insert, 0, 60},
+    {"hash_index_insert of one", index_of_all, insert_one, 0, 0},
+    {"hash_index_find", index_of_all, find, 0, 0},
+    {"hash_index_entries", index_of_all, entries, 0, 0},
+    {"hash_index_len", index_of_all, index_len, 0, 0},
+    {"chunker_next_boundary", file_of_none, cut_file, 0, 0},
+    {"file_hasher_update", file_of_none, hash_file, 0, 180},
+    {"file_hasher_size", file_of_all, file_size, 0, 0},
+    {"file_hasher_root", file_of_all, file_root, 0, 190},
+    {"file_hasher_finish", file_of_all, file_finish, 0, 190},
+    {"file_hasher_finish_with_salt", file_of_all, file_finish_with_salt, 0, 190},
 };
 
 static void expect_cost(size_t place, size_t count)

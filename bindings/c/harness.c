@@ -122,7 +122,8 @@ int main(int count, char **names)
     } tests[] = {
         {"layout", test_layout}, {"hasher", test_hasher}, {"lanes", test_lanes}, {"merging", test_merging},
         {"sessions", test_sessions}, {"range_proofs", test_range_proofs}, {"costs", test_costs}, {"growth", test_growth},
-        {"large", test_large}, {"longest", test_longest}, {"threads", test_threads},
+        {"chosen", test_chosen}, {"large", test_large}, {"longest", test_longest}, {"nesting", test_nesting},
+        {"numbers", test_numbers}, {"threads", test_threads},
     };
     for (size_t i = 0; i < LENGTH(tests); i++) {
         bool wanted = count < 2;

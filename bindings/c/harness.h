@@ -85,8 +85,11 @@ void test_sessions(void);
 void test_range_proofs(void);
 void test_costs(void);
 void test_growth(void);
+void test_chosen(void);
 void test_large(void);
 void test_longest(void);
+void test_nesting(void);
+void test_numbers(void);
 void test_threads(void);
 
 #endif

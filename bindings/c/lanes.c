@@ -1,8 +1,8 @@
 /*
  * The same bytes, hashed in different ways: as messages of one length, by one call each or by one call for all, and as messages
  * of 64 KiB by a hasher that takes pieces. The root of a list, by calls that hash the texts of groups side by side, and by a call
- * for each text; and that of a session, by its own calls and by those of subtrees. The data of a chunk, hashed and checked. And a
- * single hash under a key. bindings/c/test counts the instructions of each way.
+ * for each text; and that of a session, by its own calls and by those of subtrees. The data of a chunk, hashed and checked. A file,
+ * cut and hashed. And a single hash under a key. bindings/c/test counts the instructions of each way.
  */
 #include "harness.h"
 
@@ -190,7 +190,55 @@ static void root_of_session(void)
     free(chunks);
 }
 
-/* The data of a chunk is hashed, and checked and read by the proof of the file that it is. */
+/* Cuts a file that comes in pieces of a length, and hashes its chunks. Returns how many these are. */
+static size_t cut_and_hash(const uint8_t *bytes, size_t size, size_t piece, yurewha_chunk *chunks)
+{
+    yurewha_hasher hasher;
+    yurewha_chunker chunker;
+    size_t count = 0;
+    yurewha_chunker_begin(&chunker);
+    yurewha_hasher_begin_data(&hasher);
+    for (size_t at = 0; at < size;) {
+        const size_t left = size - at < piece ? size - at : piece;
+        const uint64_t end = yurewha_chunker_next_boundary(&chunker, bytes + at, left), taken = end != 0 ? end : left;
+        EXPECT_STATUS(YUREWHA_DONE, yurewha_hasher_update(&hasher, bytes + at, taken));
+        at += taken;
+        if (end == 0 && at < size)
+            continue;
+        chunks[count].size = yurewha_hasher_count(&hasher);
+        yurewha_hasher_finalize(&hasher, &chunks[count++].hash);
+        yurewha_hasher_begin_data(&hasher);
+    }
+    return count;
+}
+
+/* A file is cut, and its chunks are hashed, by calls for each of both and by a hasher of files: all bytes at once, or one by one. */
+static void file_by(size_t piece, const char *name, size_t size)
+{
+    row("%s", name);
+    if (!is_wanted())
+        return;
+    uint8_t *bytes = block(size);
+    yurewha_chunk *chunks = block((size / 8192 + 1) * sizeof *chunks);
+    yurewha_file_hasher file = {0};
+    yurewha_hash root, wanted;
+    for (size_t i = 0; i < size / sizeof root; i++) {
+        yurewha_random_from_seed(i, &root);
+        memcpy(bytes + i * sizeof root, &root, sizeof root);
+    }
+    const size_t count = cut_and_hash(bytes, size, piece, chunks);
+    EXPECT_STATUS(YUREWHA_DONE, yurewha_file_hasher_new(&file));
+    for (size_t at = 0; at < size; at += piece)
+        EXPECT_STATUS(YUREWHA_DONE, yurewha_file_hasher_update(&file, bytes + at, size - at < piece ? size - at : piece));
+    EXPECT_STATUS(YUREWHA_DONE, yurewha_file_hasher_root(&file, &root));
+    EXPECT_STATUS(YUREWHA_DONE, yurewha_xorb_hash(chunks, count, &wanted));
+    EXPECT(same_hash(&root, &wanted) && count > 1);
+    yurewha_file_hasher_free(&file);
+    free(bytes);
+    free(chunks);
+}
+
+/* The data of a chunk is hashed, and checked and read by the proof of the file that it is, and checked as a part of that file. */
 static void data_of_chunk(void)
 {
     row("data of a chunk");
@@ -206,6 +254,17 @@ static void data_of_chunk(void)
     EXPECT_STATUS(YUREWHA_DONE, yurewha_opened_range_check(&range, 0, data, LONG, &place));
     EXPECT_STATUS(YUREWHA_DONE, yurewha_opened_range_read(&range, 0, LONG, data, LONG, &start));
     EXPECT(place == 0 && start == 0);
+    const yurewha_hash no_key = {{0, 0, 0, 0}};
+    const yurewha_bytes no_salt = {{0}};
+    yurewha_hash file;
+    yurewha_part part = {0};
+    uint64_t begin = 1, end = 0;
+    size_t count = 0;
+    yurewha_hmac(&chunk.hash, &no_key, &file);
+    EXPECT_STATUS(YUREWHA_DONE, yurewha_part_open(NULL, 0, &chunk, 1, &file, &no_salt, 0, LONG, 0, &begin, &end, &part));
+    EXPECT_STATUS(YUREWHA_DONE, yurewha_part_check(&part, data, LONG, false, &start, &count));
+    EXPECT(begin == 0 && end == LONG && start == 0 && count == LONG);
+    yurewha_part_free(&part);
     yurewha_opened_range_free(&range);
     free(data);
 }
@@ -217,6 +276,8 @@ void test_lanes(void)
     root_of(LEAST_OF_GROUP, "root of one group");
     root_of_session();
     data_of_chunk();
+    file_by(4 * KIB * KIB, "file of 4 MiB", 4 * KIB * KIB);
+    file_by(1, "file of 256 KiB by bytes", 256 * KIB);
     keyed();
     uint8_t *bytes = block(ALL);
     yurewha_hash *hashes = block(MOST * sizeof *hashes);

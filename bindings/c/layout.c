@@ -17,7 +17,7 @@ static struct status_text text_of(yurewha_status status)
 
 static bool has_text(yurewha_status status, const char *text) { return strcmp(text_of(status).text, text) == 0; }
 
-/* Each status has a text of its own; other numbers have one and the same, also the two that the library of 1.0 had. */
+/* Each status has a text of its own; other numbers have one and the same. */
 static void status_texts(void)
 {
     for (yurewha_status status = 0; status < 80; status++) {
@@ -33,7 +33,7 @@ static void status_texts(void)
             EXPECT(!has_text(other, found.text));
     }
     row("texts of statuses");
-    EXPECT(has_text(YUREWHA_DONE, "the call succeeded") && has_text(YUREWHA_SESSION_MEMORY, "out of memory"));
+    EXPECT(has_text(YUREWHA_DONE, "the call succeeded") && has_text(YUREWHA_MEMORY, "out of memory"));
     EXPECT(has_text(YUREWHA_RULE + 13, "rule 13: right nodes don't begin at a last stable point"));
     EXPECT(has_text(YUREWHA_PROOF_RULE + 5, "rule 5: there is no chunk"));
     EXPECT(has_text(YUREWHA_SESSION_RULE + 4, "rule 4: a known hash isn't an array of four words"));
@@ -84,12 +84,16 @@ void test_layout(void)
         {"level's right", offsetof(yurewha_level, right), 8},
         {"hasher", sizeof(yurewha_hasher), 2048},
         {"hasher's alignment", _Alignof(yurewha_hasher), 8},
+        {"chunker", sizeof(yurewha_chunker), 16},
+        {"chunker's alignment", _Alignof(yurewha_chunker), 8},
         {"subtree", sizeof(yurewha_subtree), sizeof(void *)},
         {"session", sizeof(yurewha_session), sizeof(void *)},
         {"hash tree", sizeof(yurewha_hash_tree), sizeof(void *)},
         {"opened range", sizeof(yurewha_opened_range), sizeof(void *)},
         {"part", sizeof(yurewha_part), sizeof(void *)},
         {"reader", sizeof(yurewha_reader), sizeof(void *)},
+        {"hash index", sizeof(yurewha_hash_index), sizeof(void *)},
+        {"file hasher", sizeof(yurewha_file_hasher), sizeof(void *)},
         {"DONE", YUREWHA_DONE, 0},
         {"ARGUMENTS", YUREWHA_ARGUMENTS, 1},
         {"SIZES", YUREWHA_SIZES, 2},
@@ -101,8 +105,6 @@ void test_layout(void)
         {"RULE", YUREWHA_RULE, 16},
         {"SESSION_OVERLAP", YUREWHA_SESSION_OVERLAP, 33},
         {"SESSION_POSITIONS", YUREWHA_SESSION_POSITIONS, 34},
-        {"SESSION_SIZES, which is SIZES", YUREWHA_SESSION_SIZES, 2},
-        {"SESSION_MEMORY, which is MEMORY", YUREWHA_SESSION_MEMORY, 3},
         {"SESSION_GAP", YUREWHA_SESSION_GAP, 37},
         {"ELSEWHERE", YUREWHA_ELSEWHERE, 38},
         {"TOO_FAR", YUREWHA_TOO_FAR, 39},

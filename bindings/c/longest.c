@@ -21,6 +21,8 @@ static struct {
     size_t length;
     yurewha_session run;  /* has the chunks from position 1 on */
     yurewha_session runs; /* has every second position from 0 on, and knows no hashes */
+    yurewha_file_hasher hasher;
+    yurewha_chunk *equal; /* the chunks of its file */
 } it;
 
 static const yurewha_chunk other = {{{0, 0, 7, 1}}, 1};
@@ -120,6 +122,79 @@ static void file_hash_with_salt(void)
     yurewha_hash hash;
     EXPECT_STATUS(YUREWHA_DONE, yurewha_file_hash_with_salt(it.chunks, LONGEST, &no_salt, &hash));
     EXPECT(same_hash(&hash, &it.file));
+}
+
+/* ---- A hasher of a file, whose chunks are equal: of 8193 bytes, as three bytes end the first one after 3 * 2731 */
+
+enum { PERIOD = 3 * 2731, PERIODS = 128 };
+
+/* The bytes of so many chunks. */
+static uint8_t *bytes_of(size_t count)
+{
+    static const uint8_t pattern[] = {0, 148, 143};
+    uint8_t *bytes = block(count * PERIOD);
+    for (size_t i = 0; i < count * PERIOD; i++)
+        bytes[i] = pattern[i % 3];
+    return bytes;
+}
+
+static void make_file(void)
+{
+    uint8_t *bytes = bytes_of(1);
+    it.equal = block(LONGEST * sizeof *it.equal);
+    yurewha_data_hash(bytes, PERIOD, &it.equal[0].hash);
+    it.equal[0].size = PERIOD;
+    for (size_t i = 1; i < LONGEST; i++)
+        it.equal[i] = it.equal[0];
+    free(bytes);
+}
+
+static void free_file(void)
+{
+    yurewha_file_hasher_free(&it.hasher);
+    free(it.equal);
+}
+
+static void file_hasher_new(void)
+{
+    EXPECT_STATUS(YUREWHA_DONE, yurewha_file_hasher_new(&it.hasher));
+}
+
+static void file_hasher_update(void)
+{
+    uint8_t *piece = bytes_of(PERIODS);
+    uint64_t size = 0;
+    for (size_t i = 0; i < LONGEST / PERIODS; i++)
+        EXPECT_STATUS(YUREWHA_DONE, yurewha_file_hasher_update(&it.hasher, piece, PERIODS * PERIOD));
+    EXPECT_STATUS(YUREWHA_DONE, yurewha_file_hasher_update(&it.hasher, piece, LONGEST % PERIODS * PERIOD));
+    EXPECT_STATUS(YUREWHA_DONE, yurewha_file_hasher_size(&it.hasher, &size));
+    EXPECT(size == (uint64_t)LONGEST * PERIOD);
+    free(piece);
+}
+
+static void file_hasher_root(void)
+{
+    yurewha_hash root, wanted;
+    EXPECT_STATUS(YUREWHA_DONE, yurewha_file_hasher_root(&it.hasher, &root));
+    EXPECT_STATUS(YUREWHA_DONE, yurewha_xorb_hash(it.equal, LONGEST, &wanted));
+    EXPECT(same_hash(&root, &wanted));
+}
+
+static void file_hasher_finish(void)
+{
+    yurewha_hash hash, wanted;
+    EXPECT_STATUS(YUREWHA_DONE, yurewha_file_hasher_finish(&it.hasher, &hash));
+    EXPECT_STATUS(YUREWHA_DONE, yurewha_file_hash(it.equal, LONGEST, &wanted));
+    EXPECT(same_hash(&hash, &wanted));
+}
+
+static void file_hasher_finish_with_salt(void)
+{
+    const yurewha_bytes salt = {{1, 2, 3}};
+    yurewha_hash hash, wanted;
+    EXPECT_STATUS(YUREWHA_DONE, yurewha_file_hasher_finish_with_salt(&it.hasher, &salt, &hash));
+    EXPECT_STATUS(YUREWHA_DONE, yurewha_file_hash_with_salt(it.equal, LONGEST, &salt, &wanted));
+    EXPECT(same_hash(&hash, &wanted));
 }
 
 /* ---- Subtrees */
@@ -299,16 +374,6 @@ static void part_open(void)
     EXPECT_STATUS(YUREWHA_DONE, yurewha_part_open(it.levels, it.level_count, it.nodes, it.node_count, &it.file, &no_salt, 0, UINT64_MAX, 0,
                                                   &begin, &end, &part));
     expect_part(&part, begin, end);
-}
-
-static void part_open_json(void)
-{
-    yurewha_part part = {0};
-    uint64_t begin = 1, end = 0;
-    range_proof_to_json();
-    EXPECT_STATUS(YUREWHA_DONE, yurewha_part_open_json(it.text, it.length, &it.file, &no_salt, 0, UINT64_MAX, 0, &begin, &end, &part));
-    expect_part(&part, begin, end);
-    free(it.text);
 }
 
 /* ---- Sessions */
@@ -491,7 +556,10 @@ static const struct call of_lists[] = {
     ROW(from_base64), ROW(xorb_hash), ROW(file_hash), ROW(file_hash_with_salt), ROW(subtree_from_chunks), ROW(subtree_clone),
     ROW(subtree_merge_into), ROW(subtree_merge_into_counted), ROW(subtree_to_json), ROW(subtree_from_json), ROW(subtree_from_flat), ROW(subtree_merge), ROW(hash_tree_from_chunks), ROW(hash_tree_proof),
     ROW(range_proof_to_json), ROW(range_proof_from_json), ROW(range_proof_to_bytes), ROW(range_proof_from_bytes), ROW(range_proof_open),
-    ROW(range_proof_open_root), ROW(reader_new), ROW(part_open), ROW(part_open_json),
+    ROW(range_proof_open_root), ROW(reader_new), ROW(part_open),
+};
+static const struct call of_file[] = {
+    ROW(file_hasher_new), ROW(file_hasher_update), ROW(file_hasher_root), ROW(file_hasher_finish), ROW(file_hasher_finish_with_salt),
 };
 static const struct call of_sessions[] = {
     ROW(session_new), ROW(session_new_without_hashes), ROW(session_put), ROW(session_run), ROW(session_run_from), ROW(session_root),
@@ -515,6 +583,9 @@ void test_longest(void)
     const long before = live_blocks();
     make_lists();
     make_calls(of_lists, LENGTH(of_lists));
+    make_file();
+    make_calls(of_file, LENGTH(of_file));
+    free_file();
     make_sessions();
     make_calls(of_sessions, LENGTH(of_sessions));
     free_sessions();

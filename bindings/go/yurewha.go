@@ -1,8 +1,16 @@
-// Package yurewha computes the hashes of the Hugging Face Xet store, and merges adjacent ranges of chunks. It makes the calls of the C
-// library through cgo, which finds that by pkg-config, and computes nothing itself. The header yurewha.h says more about each call.
+// Package yurewha computes the hashes of the Hugging Face Xet store, also of a file (SumFile), merges adjacent ranges of chunks, and makes and
+// opens range proofs. It makes the calls of the C library through cgo, which finds that by pkg-config, and computes nothing itself. The header
+// yurewha.h says more about each call.
 //
-// A Subtree, a Session and a HashIndex own memory of the library. Close frees it, and so does the garbage collector once nothing refers to
-// them. After Close, each call of them returns ErrEmptyHandle. Goroutines may share them: calls of one object take turns.
+// A Subtree, a Session, a HashTree, an OpenedRange, a HashIndex and a FileHasher own memory of the library. Close frees it, and so does the
+// garbage collector once nothing refers to them; the package calls it when the memory of Go and of the library has doubled. After Close, each
+// call of them returns ErrEmptyHandle, until UnmarshalJSON fills it anew. A copy of such a value is the same object. Clone makes another one.
+//
+// A zero Hasher, Chunker, FileHasher, Session or HashIndex begins by itself at its first use. The zero values of the other types are empty:
+// each call returns ErrEmptyHandle, because a range that somebody forgot isn't a range without chunks.
+//
+// Goroutines may share all objects but a Hasher and a Chunker: calls of one object take turns. Only what makes a zero value an object, such as
+// the first UnmarshalJSON into it, has to come before others use it.
 package yurewha
 
 /*
@@ -12,62 +20,48 @@ package yurewha
 import "C"
 
 import (
-	"hash"
-	"runtime"
-	"sync"
 	"unsafe"
 )
 
-// A Status says why a call failed. After a failure nothing has changed.
-type Status uint32
-
-// The statuses have the names of the header. Other values say which rule a JSON value breaks: Rule + rule.
-const (
-	ErrArguments        Status = C.YUREWHA_ARGUMENTS
-	ErrSizes            Status = C.YUREWHA_SIZES
-	ErrMemory           Status = C.YUREWHA_MEMORY
-	ErrText             Status = C.YUREWHA_TEXT
-	ErrEmptyHandle      Status = C.YUREWHA_EMPTY_HANDLE
-	ErrSessionOverlap   Status = C.YUREWHA_SESSION_OVERLAP
-	ErrSessionPositions Status = C.YUREWHA_SESSION_POSITIONS
-	ErrSessionGap       Status = C.YUREWHA_SESSION_GAP
-	Rule                Status = C.YUREWHA_RULE
+// The types of the header's lengths and statuses.
+type (
+	cSize   = C.size_t
+	cStatus = C.yurewha_status
 )
 
-// Error returns what the status means, in English.
-func (s Status) Error() string {
-	var text [C.YUREWHA_STATUS_TEXT_LENGTH]byte
-	var length C.size_t
-	_ = C.yurewha_status_text(C.yurewha_status(s), (*C.char)(unsafe.Pointer(&text)), C.size_t(len(text)), &length)
-	return string(text[:length])
-}
-
-func check(status C.yurewha_status) error {
-	if status == C.YUREWHA_DONE {
-		return nil
-	}
-	return Status(status)
-}
+// The room is too small.
+const needsRoom cStatus = C.YUREWHA_ROOM
 
 // A Hash is four words. Its 32 bytes are the words in order, each little-endian.
 type Hash [4]uint64
 
-// A Chunk is the hash of a chunk, and its size in bytes.
+// A Chunk is the hash of a chunk, and its size in bytes. Its JSON is that of a node in the JSON of subtrees and proofs.
 type Chunk struct {
-	Hash Hash
-	Size uint64
+	Hash Hash   `json:"hash"`
+	Size uint64 `json:"size"`
 }
 
-// A chunk has the layout of the header's.
-var _ = [1]struct{}{}[unsafe.Sizeof(Chunk{})-unsafe.Sizeof(C.yurewha_chunk{})]
+// A Level has the numbers of nodes that a subtree or a range proof has on a level, on the left side and on the right side.
+type Level struct {
+	Left, Right uint64
+}
+
+// Chunks and levels have the layout of the header's.
+var (
+	_ = [1]struct{}{}[unsafe.Sizeof(Chunk{})-unsafe.Sizeof(C.yurewha_chunk{})]
+	_ = [1]struct{}{}[unsafe.Sizeof(Level{})-unsafe.Sizeof(C.yurewha_level{})]
+)
+
+// These pointers are to types without pointers, so cgo looks at nothing. Where the library takes any pointer, the call itself has to have
+// unsafe.Pointer(&some[0]), because cgo would look at all of the object that the bytes are in.
 
 func (h *Hash) pointer() *C.yurewha_hash { return (*C.yurewha_hash)(unsafe.Pointer(h)) }
 
-func pointer(data []byte) unsafe.Pointer {
-	if len(data) == 0 {
+func textPointer(text []byte) *C.char {
+	if len(text) == 0 {
 		return nil
 	}
-	return unsafe.Pointer(&data[0])
+	return (*C.char)(unsafe.Pointer(&text[0]))
 }
 
 func chunksPointer(chunks []Chunk) *C.yurewha_chunk {
@@ -75,6 +69,13 @@ func chunksPointer(chunks []Chunk) *C.yurewha_chunk {
 		return nil
 	}
 	return (*C.yurewha_chunk)(unsafe.Pointer(&chunks[0]))
+}
+
+func levelsPointer(levels []Level) *C.yurewha_level {
+	if len(levels) == 0 {
+		return nil
+	}
+	return (*C.yurewha_level)(unsafe.Pointer(&levels[0]))
 }
 
 func hashesPointer(hashes []Hash) *C.yurewha_hash {
@@ -98,12 +99,60 @@ func truthsPointer(truths []bool) *C.uint8_t {
 	return (*C.uint8_t)(unsafe.Pointer(&truths[0]))
 }
 
+func bytesPointer(bytes *[32]byte) *C.yurewha_bytes { return (*C.yurewha_bytes)(unsafe.Pointer(bytes)) }
+
+// Returns the data, or one byte that nobody reads.
+func atLeastOne(data []byte) []byte {
+	if len(data) == 0 {
+		return make([]byte, 1)
+	}
+	return data
+}
+
+// Returns a text that a call writes. If there isn't enough room for it, the call says how much it needs, and is made once more.
+func written(room int, call func(text []byte, length *cSize) cStatus) ([]byte, error) {
+	for {
+		text, length := make([]byte, room), cSize(0)
+		found := call(text, &length)
+		if found == C.YUREWHA_DONE {
+			return text[:length], nil
+		}
+		if found != needsRoom {
+			return nil, check(found)
+		}
+		room = int(length)
+	}
+}
+
+// Returns flat lists that a call writes, in the same way, and its status.
+func writtenLists(levelRoom, nodeRoom int, call func(levels []Level, nodes []Chunk, levelCount, nodeCount *cSize) cStatus) ([]Level, []Chunk, cStatus) {
+	for {
+		levels, nodes, levelCount, nodeCount := make([]Level, levelRoom), make([]Chunk, nodeRoom), cSize(0), cSize(0)
+		found := call(levels, nodes, &levelCount, &nodeCount)
+		if found != needsRoom {
+			return levels[:levelCount], nodes[:nodeCount], found
+		}
+		levelRoom, nodeRoom = int(levelCount), int(nodeCount)
+	}
+}
+
+// Version returns the version of the library, three numbers with points between them.
+func Version() string {
+	text, _ := written(16, func(text []byte, length *cSize) cStatus {
+		return C.yurewha_version(textPointer(text), C.size_t(len(text)), length)
+	})
+	return string(text)
+}
+
+// ProcessorLevel returns the level of processors that the library runs for, such as "x86-64-v3".
+func ProcessorLevel() string { return C.GoString(C.yurewha_processor_level()) }
+
 // String returns the 64 hex digits of a hash.
 func (h Hash) String() string {
-	var text [C.YUREWHA_HEX_LENGTH]byte
-	var length C.size_t
-	_ = C.yurewha_hex(h.pointer(), (*C.char)(unsafe.Pointer(&text)), C.size_t(len(text)), &length)
-	return string(text[:length])
+	text, _ := written(C.YUREWHA_HEX_LENGTH, func(text []byte, length *cSize) cStatus {
+		return C.yurewha_hex(h.pointer(), textPointer(text), C.size_t(len(text)), length)
+	})
+	return string(text)
 }
 
 // MarshalText returns the 64 hex digits of a hash.
@@ -111,7 +160,8 @@ func (h Hash) MarshalText() ([]byte, error) { return []byte(h.String()), nil }
 
 // UnmarshalText reads 64 hex digits, lower or upper case. For any other text it returns ErrText.
 func (h *Hash) UnmarshalText(text []byte) error {
-	return check(C.yurewha_from_hex((*C.char)(pointer(text)), C.size_t(len(text)), h.pointer()))
+	status := C.yurewha_from_hex(textPointer(text), C.size_t(len(text)), h.pointer())
+	return checkTold(status, C.YUREWHA_TEXT, "the hex text of a hash must be 64 hex digits, got %s", shown(text))
 }
 
 // ParseHash returns the hash with these 64 hex digits.
@@ -120,326 +170,126 @@ func ParseHash(text string) (h Hash, err error) {
 	return
 }
 
+// Base64 returns the 43 characters of a hash in the URL-safe alphabet, without padding.
+func (h Hash) Base64() string {
+	text, _ := written(C.YUREWHA_BASE64_LENGTH, func(text []byte, length *cSize) cStatus {
+		return C.yurewha_base64(h.pointer(), textPointer(text), C.size_t(len(text)), length)
+	})
+	return string(text)
+}
+
+// ParseBase64 returns the hash with these 43 characters, as Base64 writes them. For any other text it returns ErrText.
+func ParseBase64(text string) (h Hash, err error) {
+	status := C.yurewha_from_base64(textPointer([]byte(text)), C.size_t(len(text)), h.pointer())
+	err = checkTold(status, C.YUREWHA_TEXT, "the base64 text of a hash must be 43 characters, as Base64 writes them, got %s", shown([]byte(text)))
+	return
+}
+
 // Bytes returns the 32 bytes of a hash.
 func (h Hash) Bytes() (b [32]byte) {
-	C.yurewha_hash_to_bytes(h.pointer(), (*C.yurewha_bytes)(unsafe.Pointer(&b)))
+	C.yurewha_hash_to_bytes(h.pointer(), bytesPointer(&b))
 	return
 }
 
 // HashFromBytes returns the hash with these bytes.
 func HashFromBytes(b [32]byte) (h Hash) {
-	C.yurewha_hash_from_bytes((*C.yurewha_bytes)(unsafe.Pointer(&b)), h.pointer())
+	C.yurewha_hash_from_bytes(bytesPointer(&b), h.pointer())
+	return
+}
+
+// HashFromSeed returns a pseudorandom hash, for tests.
+func HashFromSeed(seed uint64) (h Hash) {
+	C.yurewha_random_from_seed(C.uint64_t(seed), h.pointer())
 	return
 }
 
 // Compare returns -1, 0 or 1 if the first hash is less, equal or greater. The order is that of the words, and of the texts.
 func (h Hash) Compare(other Hash) int { return int(C.yurewha_compare(h.pointer(), other.pointer())) }
 
+// Hmac returns the keyed BLAKE3 hash of the bytes of a hash, under the bytes of another one.
+func (h Hash) Hmac(key Hash) (result Hash) {
+	C.yurewha_hmac(h.pointer(), key.pointer(), result.pointer())
+	return
+}
+
+// Remainder returns the last word of a hash modulo a divisor, or ErrArguments if that is 0.
+func (h Hash) Remainder(divisor uint64) (remainder uint64, err error) {
+	status := C.yurewha_remainder(h.pointer(), C.uint64_t(divisor), (*C.uint64_t)(&remainder))
+	err = checkTold(status, C.YUREWHA_ARGUMENTS, "the divisor must be at least 1, got 0")
+	return
+}
+
 // DataHash returns the hash of a chunk.
 func DataHash(data []byte) (h Hash) {
-	C.yurewha_data_hash(pointer(data), C.size_t(len(data)), h.pointer())
+	some := atLeastOne(data)
+	C.yurewha_data_hash(unsafe.Pointer(&some[0]), C.size_t(len(data)), h.pointer())
 	return
 }
 
-// XorbHash returns the root of a list of chunks.
+// DataHashes returns the hashes of chunks in one buffer. The data of chunk i starts at offsets[i] and ends before offsets[i + 1]. It returns
+// ErrArguments if there is no offset, one is less than the one before it, or one is greater than the length of the buffer.
+func DataHashes(data []byte, offsets []uint64) ([]Hash, error) {
+	if len(offsets) == 0 {
+		return nil, refused(C.YUREWHA_ARGUMENTS, "there must be one more offset than chunks, got none")
+	}
+	some, hashes := atLeastOne(data), make([]Hash, len(offsets)-1)
+	status := C.yurewha_data_hashes(unsafe.Pointer(&some[0]), C.size_t(len(data)), (*C.size_t)(&offsets[0]), C.size_t(len(offsets)),
+		hashesPointer(hashes), C.size_t(len(hashes)))
+	if status == C.YUREWHA_ARGUMENTS {
+		return nil, wrongOffset(offsets, uint64(len(data)))
+	}
+	return hashes, check(status)
+}
+
+// Returns the error that names the first offset that is wrong.
+func wrongOffset(offsets []uint64, length uint64) error {
+	before := uint64(0)
+	for place, offset := range offsets {
+		if offset < before {
+			return refused(C.YUREWHA_ARGUMENTS, "offset %d must be at least %d, got %d", place, before, offset)
+		}
+		before = offset
+	}
+	return refused(C.YUREWHA_ARGUMENTS, "the last offset must be at most %d, the number of bytes, got %d", length, before)
+}
+
+// InternalNodeHash returns the hash of an inner node of the tree, of its text.
+func InternalNodeHash(text []byte) (h Hash) {
+	some := atLeastOne(text)
+	C.yurewha_internal_node_hash(unsafe.Pointer(&some[0]), C.size_t(len(text)), h.pointer())
+	return
+}
+
+// XorbHash returns the root of a list of chunks, or ErrSizes if the sizes add up to more than 2^64 - 1.
 func XorbHash(chunks []Chunk) (h Hash, err error) {
-	err = check(C.yurewha_xorb_hash(chunksPointer(chunks), C.size_t(len(chunks)), h.pointer()))
+	err = checkChunks(C.yurewha_xorb_hash(chunksPointer(chunks), C.size_t(len(chunks)), h.pointer()), chunks)
 	return
 }
 
-// FileHash returns the file hash of a list of chunks, without a salt.
+// FileHash returns the file hash of a list of chunks without a salt, or ErrSizes as XorbHash does.
 func FileHash(chunks []Chunk) (h Hash, err error) {
-	err = check(C.yurewha_file_hash(chunksPointer(chunks), C.size_t(len(chunks)), h.pointer()))
+	err = checkChunks(C.yurewha_file_hash(chunksPointer(chunks), C.size_t(len(chunks)), h.pointer()), chunks)
 	return
 }
 
-// FileHashWithSalt returns the file hash of a list of chunks under a salt.
+// FileHashWithSalt returns the file hash of a list of chunks under a salt, or ErrSizes as XorbHash does.
 func FileHashWithSalt(chunks []Chunk, salt [32]byte) (h Hash, err error) {
-	err = check(C.yurewha_file_hash_with_salt(chunksPointer(chunks), C.size_t(len(chunks)), (*C.yurewha_bytes)(unsafe.Pointer(&salt)), h.pointer()))
+	status := C.yurewha_file_hash_with_salt(chunksPointer(chunks), C.size_t(len(chunks)), bytesPointer(&salt), h.pointer())
+	err = checkChunks(status, chunks)
 	return
 }
 
-// A Hasher takes the data of a chunk in pieces. It is a hash.Hash, and a copy of it goes on by itself.
-type Hasher struct {
-	state C.yurewha_hasher
+// FindStableStart returns the first stable point of some nodes, as the number of nodes before it, and whether there is one. At a stable point
+// a group ends, no matter which nodes come before and after the given ones.
+func FindStableStart(nodes []Chunk) (point int, found bool) {
+	var place C.size_t
+	found = C.yurewha_find_stable_start(chunksPointer(nodes), C.size_t(len(nodes)), &place) == C.YUREWHA_DONE
+	return int(place), found
 }
 
-var _ hash.Hash = (*Hasher)(nil)
-
-// NewHasher returns a hasher of a chunk without data.
-func NewHasher() *Hasher {
-	h := new(Hasher)
-	h.Reset()
-	return h
-}
-
-// Reset goes back to a chunk without data.
-func (h *Hasher) Reset() { C.yurewha_hasher_begin_data(&h.state) }
-
-// Write appends a piece. It returns ErrSizes if there would be more than 2^64 - 1 bytes.
-func (h *Hasher) Write(piece []byte) (int, error) {
-	if err := check(C.yurewha_hasher_update(&h.state, pointer(piece), C.size_t(len(piece)))); err != nil {
-		return 0, err
-	}
-	return len(piece), nil
-}
-
-// Hash returns the hash of the data so far.
-func (h *Hasher) Hash() (sum Hash) {
-	C.yurewha_hasher_finalize(&h.state, sum.pointer())
-	return
-}
-
-// Sum appends the bytes of the hash to a slice.
-func (h *Hasher) Sum(to []byte) []byte {
-	sum := h.Hash().Bytes()
-	return append(to, sum[:]...)
-}
-
-// Size returns 32, the number of bytes of a hash.
-func (h *Hasher) Size() int { return 32 }
-
-// BlockSize returns the length of a block of BLAKE3 in bytes.
-func (h *Hasher) BlockSize() int { return 64 }
-
-// A Subtree is what is kept of a range of chunks, to merge it with its neighbours.
-type Subtree struct {
-	owned *ownedSubtree
-}
-
-type ownedSubtree struct {
-	lock   sync.Mutex
-	handle C.yurewha_subtree
-}
-
-func newSubtree() *Subtree {
-	owned := new(ownedSubtree)
-	runtime.SetFinalizer(owned, func(owned *ownedSubtree) { C.yurewha_subtree_free(&owned.handle) })
-	return &Subtree{owned}
-}
-
-// Makes a call that reads or changes the handle.
-func (s *Subtree) with(call func(*C.yurewha_subtree) C.yurewha_status) error {
-	if s.owned == nil {
-		return ErrEmptyHandle
-	}
-	s.owned.lock.Lock()
-	defer s.owned.lock.Unlock()
-	return check(call(&s.owned.handle))
-}
-
-// NewSubtree returns the subtree of some chunks. atStart says that no chunk comes before them, and atEnd that none comes after them.
-func NewSubtree(atStart bool, chunks []Chunk, atEnd bool) (*Subtree, error) {
-	made := newSubtree()
-	err := made.with(func(handle *C.yurewha_subtree) C.yurewha_status {
-		return C.yurewha_subtree_from_chunks(C.bool(atStart), chunksPointer(chunks), C.size_t(len(chunks)), C.bool(atEnd), handle)
-	})
-	if err != nil {
-		return nil, err
-	}
-	return made, nil
-}
-
-// Clone returns a copy.
-func (s *Subtree) Clone() (*Subtree, error) {
-	made := newSubtree()
-	err := s.with(func(handle *C.yurewha_subtree) C.yurewha_status {
-		return C.yurewha_subtree_clone(handle, &made.owned.handle)
-	})
-	if err != nil {
-		return nil, err
-	}
-	return made, nil
-}
-
-// MergeInto appends another subtree, that of the range that follows, which stays as it was.
-func (s *Subtree) MergeInto(other *Subtree) error {
-	// The call gets a copy of the other one, since goroutines may merge two subtrees into each other at once.
-	copied, err := other.Clone()
-	if err != nil {
-		return err
-	}
-	defer copied.Close()
-	return s.with(func(handle *C.yurewha_subtree) C.yurewha_status {
-		return C.yurewha_subtree_merge_into(handle, &copied.owned.handle)
-	})
-}
-
-// FinalHash returns the root, or ErrArguments if an end isn't marked.
-func (s *Subtree) FinalHash() (h Hash, err error) {
-	err = s.with(func(handle *C.yurewha_subtree) C.yurewha_status {
-		return C.yurewha_subtree_final_hash(handle, h.pointer())
-	})
-	return
-}
-
-// MarshalJSON returns the compact JSON text of a subtree.
-func (s *Subtree) MarshalJSON() ([]byte, error) {
-	text := make([]byte, 4096)
-	for {
-		var length C.size_t
-		err := s.with(func(handle *C.yurewha_subtree) C.yurewha_status {
-			return C.yurewha_subtree_to_json(handle, (*C.char)(pointer(text)), C.size_t(len(text)), &length)
-		})
-		if err == nil {
-			return text[:length], nil
-		}
-		if err != Status(C.YUREWHA_ROOM) {
-			return nil, err
-		}
-		text = make([]byte, length)
-	}
-}
-
-// UnmarshalJSON reads a subtree. For a value that is none it returns the rule that the value breaks.
-func (s *Subtree) UnmarshalJSON(text []byte) error {
-	made := newSubtree()
-	err := made.with(func(handle *C.yurewha_subtree) C.yurewha_status {
-		return C.yurewha_subtree_from_json((*C.char)(pointer(text)), C.size_t(len(text)), handle)
-	})
-	if err == nil {
-		s.owned = made.owned
-	}
-	return err
-}
-
-// Close frees the memory of a subtree.
-func (s *Subtree) Close() {
-	_ = s.with(func(handle *C.yurewha_subtree) C.yurewha_status {
-		C.yurewha_subtree_free(handle)
-		return C.YUREWHA_DONE
-	})
-}
-
-// A Session takes the chunks of a file in any order, by their positions.
-type Session struct {
-	lock   sync.Mutex
-	handle C.yurewha_session
-}
-
-func makeSession(call func(*C.yurewha_session) C.yurewha_status) (*Session, error) {
-	s := new(Session)
-	if err := check(call(&s.handle)); err != nil {
-		return nil, err
-	}
-	runtime.SetFinalizer(s, (*Session).Close)
-	return s, nil
-}
-
-// NewSession returns a session without chunks.
-func NewSession() (*Session, error) {
-	return makeSession(func(made *C.yurewha_session) C.yurewha_status { return C.yurewha_session_new(made) })
-}
-
-// NewSessionWithoutHashes returns a session that keeps no hashes, so that its memory is in proportion to its runs.
-func NewSessionWithoutHashes() (*Session, error) {
-	return makeSession(func(made *C.yurewha_session) C.yurewha_status { return C.yurewha_session_new_without_hashes(made) })
-}
-
-// Put puts chunks at the positions from first on. It returns how many of their hashes are new.
-func (s *Session) Put(first uint64, chunks []Chunk) (uint64, error) {
-	s.lock.Lock()
-	defer s.lock.Unlock()
-	var fresh C.uint64_t
-	err := check(C.yurewha_session_put(&s.handle, C.uint64_t(first), chunksPointer(chunks), C.size_t(len(chunks)), &fresh))
-	return uint64(fresh), err
-}
-
-// Root returns the root of all chunks, or ErrSessionGap if the taken positions aren't exactly those below total.
-func (s *Session) Root(total uint64) (h Hash, err error) {
-	s.lock.Lock()
-	defer s.lock.Unlock()
-	err = check(C.yurewha_session_root(&s.handle, C.uint64_t(total), h.pointer()))
-	return
-}
-
-// Finish returns the file hash of all chunks, or ErrSessionGap if the taken positions aren't exactly those below total.
-func (s *Session) Finish(total uint64) (h Hash, err error) {
-	s.lock.Lock()
-	defer s.lock.Unlock()
-	err = check(C.yurewha_session_finish(&s.handle, C.uint64_t(total), h.pointer()))
-	return
-}
-
-// Close frees the memory of a session.
-func (s *Session) Close() {
-	s.lock.Lock()
-	defer s.lock.Unlock()
-	C.yurewha_session_free(&s.handle)
-}
-
-// A HashIndex has a number for each of some hashes, such as where the chunk with this hash stands. The number that came first stays.
-type HashIndex struct {
-	lock   sync.Mutex
-	handle C.yurewha_hash_index
-}
-
-// NewHashIndex returns an index without hashes.
-func NewHashIndex() (*HashIndex, error) {
-	x := new(HashIndex)
-	if err := check(C.yurewha_hash_index_new(&x.handle)); err != nil {
-		return nil, err
-	}
-	runtime.SetFinalizer(x, (*HashIndex).Close)
-	return x, nil
-}
-
-// Insert gives each hash the number at the same place of the other list, unless the hash has one already: the number that came first stays,
-// also among those of one call. It returns how many hashes are new, each counted once, or ErrArguments if the lists have different lengths.
-func (x *HashIndex) Insert(hashes []Hash, numbers []uint64) (int, error) {
-	x.lock.Lock()
-	defer x.lock.Unlock()
-	var fresh C.size_t
-	err := check(C.yurewha_hash_index_insert(&x.handle, hashesPointer(hashes), C.size_t(len(hashes)), numbersPointer(numbers), C.size_t(len(numbers)), &fresh))
-	return int(fresh), err
-}
-
-// Find returns the number of each hash, and whether it has one. The number of a hash that has none is 0.
-func (x *HashIndex) Find(hashes []Hash) (numbers []uint64, found []bool, err error) {
-	x.lock.Lock()
-	defer x.lock.Unlock()
-	count := C.size_t(len(hashes))
-	numbers, found = make([]uint64, len(hashes)), make([]bool, len(hashes))
-	err = check(C.yurewha_hash_index_find(&x.handle, hashesPointer(hashes), count, truthsPointer(found), count, numbersPointer(numbers), count))
-	return
-}
-
-// Get returns the number of a hash, and whether it has one.
-func (x *HashIndex) Get(hash Hash) (number uint64, found bool, err error) {
-	numbers, founds, err := x.Find([]Hash{hash})
-	return numbers[0], founds[0], err
-}
-
-// Len returns how many hashes have a number.
-func (x *HashIndex) Len() (int, error) {
-	x.lock.Lock()
-	defer x.lock.Unlock()
-	return x.len()
-}
-
-func (x *HashIndex) len() (int, error) {
-	var count C.size_t
-	err := check(C.yurewha_hash_index_len(&x.handle, &count))
-	return int(count), err
-}
-
-// Entries returns all hashes, each once and in no particular order, and the number of each at the same place of the other list.
-func (x *HashIndex) Entries() (hashes []Hash, numbers []uint64, err error) {
-	x.lock.Lock()
-	defer x.lock.Unlock()
-	length, err := x.len()
-	if err != nil {
-		return nil, nil, err
-	}
-	count := C.size_t(length)
-	hashes, numbers = make([]Hash, length), make([]uint64, length)
-	err = check(C.yurewha_hash_index_entries(&x.handle, hashesPointer(hashes), count, numbersPointer(numbers), count))
-	return
-}
-
-// Close frees the memory of an index.
-func (x *HashIndex) Close() {
-	x.lock.Lock()
-	defer x.lock.Unlock()
-	C.yurewha_hash_index_free(&x.handle)
+// FindStableEnd returns the last stable point, as FindStableStart does the first.
+func FindStableEnd(nodes []Chunk) (point int, found bool) {
+	var place C.size_t
+	found = C.yurewha_find_stable_end(chunksPointer(nodes), C.size_t(len(nodes)), &place) == C.YUREWHA_DONE
+	return int(place), found
 }

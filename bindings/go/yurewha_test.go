@@ -2,28 +2,15 @@ package yurewha
 
 import (
 	"encoding/json"
+	"errors"
 	"fmt"
 	"io"
 	"math/rand"
-	"os"
 	"runtime"
 	"strings"
 	"sync"
 	"testing"
 )
-
-// The tests of a file of test vectors, with the members that are asked for.
-func vectors[T any](t *testing.T, name string) (groups []T) {
-	text, err := os.ReadFile("../../tests/vectors/" + name)
-	var file struct{ TestGroups []T }
-	if err == nil {
-		err = json.Unmarshal(text, &file)
-	}
-	if err != nil || len(file.TestGroups) == 0 {
-		t.Fatal(name, err)
-	}
-	return file.TestGroups
-}
 
 func chunks(texts ...string) (list []Chunk) {
 	for _, text := range texts {
@@ -47,41 +34,20 @@ func expect(t *testing.T, found, wanted any) {
 	}
 }
 
+// Expects an error with a status.
+func expectError(t *testing.T, err error, wanted Status) {
+	t.Helper()
+	if !errors.Is(err, wanted) {
+		t.Errorf("%v, and not %v", err, wanted)
+	}
+}
+
 // A value without its error, which has to be nil.
 func must[T any](value T, err error) T {
 	if err != nil {
 		panic(err)
 	}
 	return value
-}
-
-func TestHashesAreThoseOfTheVectors(t *testing.T) {
-	type group struct {
-		Type, KeyName string
-		Tests         []struct {
-			Length int
-			Hash   Hash
-		}
-	}
-	count := 0
-	for _, group := range vectors[group](t, "hashes.json") {
-		if group.Type != "MessageHash" || group.KeyName != "data" {
-			continue
-		}
-		for _, test := range group.Tests {
-			message := make([]byte, test.Length)
-			for i := range message {
-				message[i] = byte(i % 251)
-			}
-			expect(t, DataHash(message), test.Hash)
-			hasher := NewHasher()
-			must(hasher.Write(message[:test.Length/3]))
-			must(io.Copy(hasher, strings.NewReader(string(message[test.Length/3:]))))
-			expect(t, hasher.Hash(), test.Hash)
-			count++
-		}
-	}
-	expect(t, count > 30, true)
 }
 
 func TestAHashHasItsForms(t *testing.T) {
@@ -93,20 +59,39 @@ func TestAHashHasItsForms(t *testing.T) {
 	expect(t, hash.Bytes()[24], byte(255))
 	expect(t, fmt.Sprint(hash.Compare(Hash{1, 2, 4}), hash.Compare(hash), hash.Compare(Hash{1, 2, 3})), "-1 0 1")
 	_, err := ParseHash("a")
-	expect(t, err, ErrText)
+	expectError(t, err, ErrText)
 	expect(t, string(must(json.Marshal(hash))), `"`+hash.String()+`"`)
+}
+
+func TestTheLibrarySaysWhatItIs(t *testing.T) {
+	numbers := strings.Split(Version(), ".")
+	expect(t, len(numbers), 3)
+	expect(t, strings.HasPrefix(ProcessorLevel(), "x86-64") || ProcessorLevel() == "aarch64", true)
 }
 
 func TestAHasherIsAHashOfGo(t *testing.T) {
 	hasher := NewHasher()
-	must(hasher.Write([]byte("a ch")))
+	expect(t, must(io.Copy(hasher, strings.NewReader("a ch"))), int64(4))
 	copied := *hasher
-	must(hasher.Write([]byte("unk")))
+	for _, piece := range []string{"", "un", "k"} {
+		expect(t, must(hasher.Write([]byte(piece))), len(piece))
+	}
 	sum := DataHash([]byte("a chunk")).Bytes()
 	expect(t, string(hasher.Sum([]byte("x"))), "x"+string(sum[:]))
 	expect(t, copied.Hash(), DataHash([]byte("a ch")))
+	var zero Hasher
+	must(zero.Write([]byte("a ch")))
+	expect(t, zero.Hash(), DataHash([]byte("a ch")))
+	expect(t, hasher.Count(), uint64(7))
 	hasher.Reset()
 	expect(t, hasher.Hash(), DataHash(nil))
+	for _, keyed := range []*Hasher{NewInternalNodeHasher(), NewKeyedHasher([32]byte{7})} {
+		begun := keyed.Hash()
+		must(keyed.Write([]byte("a chunk")))
+		keyed.Reset()
+		expect(t, keyed.Hash(), begun)
+		expect(t, keyed.Hash() != DataHash(nil), true)
+	}
 	expect(t, hasher.Size(), len(sum))
 	expect(t, hasher.BlockSize(), 64)
 }
@@ -118,69 +103,19 @@ func TestRootsAndMergedRangesAgree(t *testing.T) {
 	expect(t, must(FileHashWithSalt(list, [32]byte{})), must(FileHash(list)))
 	expect(t, must(FileHashWithSalt(list, [32]byte{1})) != must(FileHash(list)), true)
 	expect(t, must(XorbHash(nil)), Hash{})
-	huge := []Chunk{{Hash{1}, 1 << 63}, {Hash{2}, 1 << 63}}
-	for _, call := range []func([]Chunk) (Hash, error){XorbHash, FileHash} {
-		_, err := call(huge)
-		expect(t, err, ErrSizes)
-	}
 
 	front, back := must(NewSubtree(true, list[:1], false)), must(NewSubtree(false, list[1:], true))
 	_, err := front.FinalHash()
-	expect(t, err, ErrArguments)
+	expectError(t, err, ErrArguments)
 	copied := must(front.Clone())
 	expect(t, front.MergeInto(back), nil)
 	expect(t, must(front.FinalHash()), must(XorbHash(list)))
-	expect(t, front.MergeInto(back), ErrArguments)
+	expectError(t, front.MergeInto(back), ErrArguments)
 	expect(t, copied.MergeInto(back), nil)
 	expect(t, must(copied.FinalHash()), must(XorbHash(list)))
 	twice := must(NewSubtree(false, list, false))
 	expect(t, twice.MergeInto(twice), nil)
 	expect(t, string(must(twice.MarshalJSON())), string(must(must(NewSubtree(false, append(list, list...), false)).MarshalJSON())))
-	_, err = NewSubtree(true, huge, true)
-	expect(t, err, ErrSizes)
-	expect(t, err.Error(), ErrSizes.Error())
-	expect(t, ErrSizes.Error() != ErrText.Error() && len(ErrSizes.Error()) > 5, true)
-
-	back.Close()
-	back.Close()
-	_, err = back.FinalHash()
-	expect(t, err, ErrEmptyHandle)
-	expect(t, front.MergeInto(back), ErrEmptyHandle)
-	expect(t, new(Subtree).MergeInto(front), ErrEmptyHandle)
-	_, err = new(Subtree).Clone()
-	expect(t, err, ErrEmptyHandle)
-}
-
-func TestSubtreesAreReadAsTheVectorsSay(t *testing.T) {
-	type group struct {
-		Tests []struct {
-			Text, Error string
-			Rule        Status
-		}
-	}
-	count := 0
-	for _, group := range vectors[group](t, "subtree_json.json") {
-		for _, test := range group.Tests {
-			var subtree, again Subtree
-			err := subtree.UnmarshalJSON([]byte(test.Text))
-			switch test.Error {
-			case "":
-				expect(t, err, nil)
-				text := must(json.Marshal(&subtree))
-				expect(t, json.Unmarshal(text, &again), nil)
-				expect(t, string(must(again.MarshalJSON())), string(text))
-			case "NotJson":
-				expect(t, err, ErrText)
-			default:
-				expect(t, err, Rule+test.Rule)
-			}
-			count++
-		}
-	}
-	expect(t, count > 200, true)
-	// A text that is longer than the first room.
-	text := must(must(NewSubtree(false, uncut(200), false)).MarshalJSON())
-	expect(t, len(text) > 4096 && json.Valid(text), true)
 }
 
 func TestASessionTakesChunksInAnyOrder(t *testing.T) {
@@ -189,23 +124,88 @@ func TestASessionTakesChunksInAnyOrder(t *testing.T) {
 		session := must(begin())
 		expect(t, must(session.Put(1, list[1:])), uint64(2))
 		_, err := session.Put(2, list[:1])
-		expect(t, err, ErrSessionOverlap)
+		expectError(t, err, ErrSessionOverlap)
 		_, err = session.Put(1<<64-1, list[:2])
-		expect(t, err, ErrSessionPositions)
+		expectError(t, err, ErrSessionPositions)
 		_, err = session.Finish(3)
-		expect(t, err, ErrSessionGap)
+		expectError(t, err, ErrSessionGap)
 		expect(t, must(session.Put(0, list[:1])), uint64(1))
 		expect(t, must(session.Finish(3)), must(FileHash(list)))
 		expect(t, must(session.Root(3)), must(XorbHash(list)))
 		session.Close()
 		_, err = session.Root(3)
-		expect(t, err, ErrEmptyHandle)
+		expectError(t, err, ErrEmptyHandle)
 	}
 	session, light := must(NewSession()), must(NewSessionWithoutHashes())
+	for _, keeps := range []bool{false, true} {
+		expect(t, must(must(ParseSession(must(session.MarshalJSON()), keeps)).KeepsHashes()), keeps)
+	}
 	must(session.Put(0, list))
 	must(light.Put(0, list))
 	expect(t, must(session.Put(3, list)), uint64(0))
 	expect(t, must(light.Put(3, list)), uint64(3))
+}
+
+// The last position is 2^64 - 2, and a run that has it ends at 2^64 - 1.
+func TestRunsEndWhereAGapBegins(t *testing.T) {
+	const most = 1<<64 - 1
+	session, list := new(Session), some(2)
+	wanted := []Positions{{3, 5}, {7, 9}, {most - 2, most}}
+	for _, run := range wanted {
+		must(session.Put(run.First, list))
+	}
+	position := uint64(0)
+	for i, positions := range wanted {
+		run := must(session.Run(i))
+		expect(t, run.Positions, positions)
+		from, found, err := session.RunFrom(position)
+		expect(t, fmt.Sprint(from.Positions, found, err), fmt.Sprint(positions, true, nil))
+		expect(t, must(run.Subtree.Equal(from.Subtree)), true)
+		expect(t, must(run.Subtree.TotalSize()), uint64(18))
+		position = from.End
+	}
+	_, found, err := session.RunFrom(position)
+	expect(t, fmt.Sprint(found, err), fmt.Sprint(false, nil))
+	expect(t, fmt.Sprint(must(session.Gaps(10))), "[{0 3} {5 7} {9 10}]")
+	expect(t, must(session.NumRuns()), 3)
+	for first, position := range map[uint64]string{2: "3", 4: "4", 6: "7", most - 1: "18446744073709551614", most - 3: "18446744073709551613"} {
+		_, err := session.Put(first, list)
+		expect(t, fmt.Sprint(err), "yurewha: position "+position+" is taken")
+	}
+}
+
+// Whoever knows the hash of a file checks a part of it by a proof, which has come as JSON or as bytes.
+func TestAProofShowsAPartOfAFile(t *testing.T) {
+	list := some(9)
+	tree := must(NewHashTree(list))
+	first, end, err := tree.ChunksAt(70, 120)
+	expect(t, fmt.Sprint(first, end, err), "4 6 <nil>")
+	data := append(dataOfChunk(4), dataOfChunk(5)...)
+	var fromJSON, fromBytes RangeProof
+	made := must(tree.Proof(first, end))
+	expect(t, fromJSON.UnmarshalJSON(must(made.MarshalJSON())), nil)
+	expect(t, fromBytes.UnmarshalBinary(must(made.MarshalBinary())), nil)
+	for _, proof := range []*RangeProof{made, &fromJSON, &fromBytes, must(NewRangeProof(must(made.Levels()), must(made.Nodes())))} {
+		expect(t, fmt.Sprint(must(proof.Chunks())), fmt.Sprint(list[first:end]))
+		opened := must(proof.Open(must(FileHash(list))))
+		expect(t, string(must(opened.Read(70, 120, data))), string(data[10:60]))
+		expect(t, must(opened.Check(1, data[30:])), uint64(90))
+		data[7] ^= 1
+		_, err := opened.Read(70, 120, data)
+		expectError(t, err, ErrMismatch)
+		data[7] ^= 1
+		expect(t, must(opened.FileSize()), must(tree.TotalSize()))
+	}
+	// A proof keeps no list that somebody else may change.
+	text, levels, nodes := string(must(made.MarshalJSON())), must(made.Levels()), must(made.Nodes())
+	copied := must(NewRangeProof(levels, nodes))
+	levels[0].Left, nodes[0].Size = 7, 7
+	must(copied.Nodes())[0].Size = 7
+	must(copied.Levels())[0].Left = 7
+	must(copied.Chunks())[0].Size = 7
+	for _, proof := range []*RangeProof{made, copied} {
+		expect(t, string(must(proof.MarshalJSON())), text)
+	}
 }
 
 func TestTheNumberOfAHashThatCameFirstStays(t *testing.T) {
@@ -220,7 +220,7 @@ func TestTheNumberOfAHashThatCameFirstStays(t *testing.T) {
 		expect(t, fmt.Sprint(number, found, err), wanted)
 	}
 	_, err = index.Insert([]Hash{three}, nil)
-	expect(t, err, ErrArguments)
+	expectError(t, err, ErrArguments)
 	expect(t, must(index.Len()), 2)
 	hashes, numbers, err := index.Entries()
 	entries := map[Hash]uint64{}
@@ -228,18 +228,6 @@ func TestTheNumberOfAHashThatCameFirstStays(t *testing.T) {
 		entries[hash] = numbers[i]
 	}
 	expect(t, fmt.Sprint(entries, len(hashes), err), fmt.Sprint(map[Hash]uint64{one: 0, two: 1<<64 - 1}, 2, nil))
-
-	index.Close()
-	index.Close()
-	for _, call := range []func() error{
-		func() error { _, err := index.Insert(nil, nil); return err },
-		func() error { _, _, err := index.Find(nil); return err },
-		func() error { _, _, err := index.Get(one); return err },
-		func() error { _, err := index.Len(); return err },
-		func() error { _, _, err := index.Entries(); return err },
-	} {
-		expect(t, call(), ErrEmptyHandle)
-	}
 }
 
 func TestDrawnHashesHaveTheNumbersOfAMap(t *testing.T) {
@@ -279,6 +267,36 @@ func TestDrawnHashesHaveTheNumbersOfAMap(t *testing.T) {
 			expect(t, fmt.Sprint(number, found, err), fmt.Sprint(wantedNumber, known, nil))
 		}
 	}
+}
+
+// A text that doesn't fit is asked for once more, with the room that it needs, and so are lists.
+func TestWhatDoesNotFitIsAskedForTwice(t *testing.T) {
+	for length, wanted := range map[int]int{0: 1, 4096: 1, 4097: 2, 1 << 20: 2} {
+		asked := 0
+		text := must(written(4096, func(text []byte, needed *cSize) cStatus {
+			asked++
+			*needed = cSize(length)
+			if len(text) < length {
+				return needsRoom
+			}
+			return 0
+		}))
+		expect(t, len(text), length)
+		expect(t, asked, wanted)
+		asked = 0
+		levels, nodes, status := writtenLists(64, 64, func(levels []Level, nodes []Chunk, levelCount, nodeCount *cSize) cStatus {
+			asked++
+			*levelCount, *nodeCount = 2, cSize(length)
+			if len(nodes) < length {
+				return needsRoom
+			}
+			return 0
+		})
+		expect(t, fmt.Sprint(len(levels), len(nodes), status), fmt.Sprint(2, length, 0))
+		expect(t, asked <= 2, true)
+	}
+	text := must(must(NewSubtree(false, uncut(200), false)).MarshalJSON())
+	expect(t, len(text) > 4096 && json.Valid(text), true)
 }
 
 func TestGoroutinesShareObjects(t *testing.T) {

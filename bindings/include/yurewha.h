@@ -25,8 +25,8 @@
  *
  * Handles
  *
- * - yurewha_subtree, yurewha_session, yurewha_hash_tree, yurewha_opened_range, yurewha_part, yurewha_reader and
- *   yurewha_hash_index are handles. An empty handle is {0} and owns nothing. Any other handle was written by a call of this
+ * - yurewha_subtree, yurewha_session, yurewha_hash_tree, yurewha_opened_range, yurewha_part, yurewha_reader, yurewha_hash_index
+ *   and yurewha_file_hasher are handles. An empty handle is {0} and owns nothing. Any other handle was written by a call of this
  *   library and owns memory.
  * - A handle that a call writes to must be empty or own something. It must not be uninitialized. If the call succeeds, it
  *   frees what the handle owned before. If it fails, the handle keeps what it owned.
@@ -48,7 +48,8 @@
  * Memory
  *
  * - The library allocates by malloc and realloc, and frees by free, or by the functions that yurewha_set_allocator got. These
- *   must belong together. They must align a block to each power of two up to 16 that divides its size.
+ *   must belong together. They must align a block to each power of two up to 16 that divides its size. No exception of C++ and no
+ *   longjmp may leave them, because what the call was doing would be lost.
  * - For any call 64 KiB of stack are enough, and most take less (docs/LIMITS.md). With too little, a signal ends the process.
  * - No call may be made from a signal handler. None may be made in the forked child of a process with several threads.
  */
@@ -59,7 +60,12 @@
 #include <stddef.h>
 #include <stdint.h>
 
-/* Attributes, if the compiler has them: the result must be used, and the arguments with these numbers may not be null. The last
+#if SIZE_MAX != UINT64_MAX
+#error "Yurewha is for machines whose pointers have 8 bytes."
+#endif
+
+/* Attributes, if the compiler has them: the result must be used, and the arguments with these numbers may not be null. What the
+ * argument with the first number of YUREWHA_INITIALIZED points to must be initialized; a second number is that of its count. The last
  * one says which version of the library first had a call. It means nothing to a compiler, and is for readers and for tools. */
 #if (defined(__cplusplus) && __cplusplus >= 201703L) || (defined(__STDC_VERSION__) && __STDC_VERSION__ >= 202311L)
 #define YUREWHA_NODISCARD [[nodiscard]]
@@ -73,8 +79,22 @@
 #else
 #define YUREWHA_NONNULL(...)
 #endif
+#ifdef __has_attribute
+#if __has_attribute(access)
+#define YUREWHA_INITIALIZED(...) __attribute__((access(read_write, __VA_ARGS__)))
+#endif
+#endif
+#ifndef YUREWHA_INITIALIZED
+#define YUREWHA_INITIALIZED(...)
+#endif
 #ifndef YUREWHA_SINCE
 #define YUREWHA_SINCE(version)
+#endif
+/* In C++, a function that may throw isn't taken for one that the library calls. */
+#if defined(__cplusplus) && __cplusplus >= 201703L
+#define YUREWHA_NOEXCEPT noexcept
+#else
+#define YUREWHA_NOEXCEPT
 #endif
 
 #ifdef __cplusplus
@@ -83,8 +103,9 @@ extern "C" {
 
 /* ---- Version */
 
-/* The version of this header, and of the library that it was packaged with. A program may use a later version of the
- * library if the first number is the same. YUREWHA_SINCE says which version of the library first had a call. */
+/* The version of this header, and of the library that it was packaged with. What CHANGELOG calls not released has its number, too, and
+ * may still change. A program may use a later version of the library if the first number is the same. YUREWHA_SINCE says which
+ * version of the library first had a call. */
 #define YUREWHA_VERSION "1.1.0"
 #define YUREWHA_VERSION_MAJOR 1
 #define YUREWHA_VERSION_MINOR 1
@@ -126,11 +147,6 @@ typedef uint32_t yurewha_status;
 #define YUREWHA_SESSION_POSITIONS 34u /* SessionPositions: the first position plus the number of chunks passes 2^64 - 1 */
 #define YUREWHA_SESSION_GAP 37u       /* SessionGap: the taken positions aren't exactly those below the total */
 
-/* Deprecated names. The library of version 1.0 returned 35 and 36 for these; no status gets these numbers again. */
-#define YUREWHA_SESSION_SIZES YUREWHA_SIZES
-#define YUREWHA_SESSION_MEMORY YUREWHA_MEMORY
-
-
 /* ---- Values */
 
 /* A hash: four words. Its 32 bytes are the words in order, each little-endian. The default hash is all zeros. */
@@ -162,6 +178,13 @@ typedef struct yurewha_hasher {
     uint64_t state[256];
 } yurewha_hasher;
 
+/* A chunker, in the caller's own memory. Begin it before any other call. It holds no pointers, and a copy of its bytes is a copy of the
+ * chunker. The members are private to the library. */
+typedef struct yurewha_chunker {
+    size_t size;
+    uint64_t gear;
+} yurewha_chunker;
+
 /* Handles. The rules for them are at the top. The member is private to the library. */
 typedef struct yurewha_subtree {
     uint8_t *at;
@@ -190,6 +213,10 @@ typedef struct yurewha_reader {
 typedef struct yurewha_hash_index {
     uint8_t *at;
 } yurewha_hash_index;
+
+typedef struct yurewha_file_hasher {
+    uint8_t *at;
+} yurewha_file_hasher;
 
 /* The lengths of a hash as hex text and as base64 text, and the greatest length of a status's text. */
 #define YUREWHA_HEX_LENGTH 64u
@@ -228,10 +255,10 @@ const char *yurewha_processor_level(void);
 
 /* What malloc, realloc and free do: the second also keeps the content of a block, and the block itself if it returns a null pointer.
  * No size is 0, and no block that is handed over is a null pointer. Any thread that calls the library calls them. They may not call
- * the library. */
-typedef void *(*yurewha_allocate)(size_t size);
-typedef void *(*yurewha_reallocate)(void *block, size_t size);
-typedef void (*yurewha_release)(void *block);
+ * the library. They return a null pointer where there is no memory, and throw nothing. */
+typedef void *(*yurewha_allocate)(size_t size) YUREWHA_NOEXCEPT;
+typedef void *(*yurewha_reallocate)(void *block, size_t size) YUREWHA_NOEXCEPT;
+typedef void (*yurewha_release)(void *block) YUREWHA_NOEXCEPT;
 
 /* Makes the library allocate by these functions, for all of the program. A program calls it before any other call of the library,
  * and while no other thread calls the library.
@@ -243,39 +270,39 @@ yurewha_status yurewha_set_allocator(yurewha_allocate allocate, yurewha_realloca
 /* ---- Hashes */
 
 /* Writes the hash of a chunk. `bytes` is its data. The hash is keyed BLAKE3 under the data key. It allocates nothing. */
-YUREWHA_NONNULL(3) YUREWHA_SINCE(1.0)
+YUREWHA_NONNULL(3) YUREWHA_SINCE(1.1)
 void yurewha_data_hash(const void *bytes, size_t length, yurewha_hash *hash);
 
 /* Writes the hash of an inner node of the tree. `bytes` is its text. The hash is keyed BLAKE3 under the internal key. It
  * allocates nothing. */
-YUREWHA_NONNULL(3) YUREWHA_SINCE(1.0)
+YUREWHA_NONNULL(3) YUREWHA_SINCE(1.1)
 void yurewha_internal_node_hash(const void *bytes, size_t length, yurewha_hash *hash);
 
 /* Writes the keyed BLAKE3 hash of the bytes of `hash`, under the bytes of `key`. It allocates nothing. */
-YUREWHA_NONNULL(1, 2, 3) YUREWHA_SINCE(1.0)
+YUREWHA_NONNULL(1, 2, 3) YUREWHA_SINCE(1.1)
 void yurewha_hmac(const yurewha_hash *hash, const yurewha_hash *key, yurewha_hash *result);
 
 /* Writes a pseudorandom hash, for tests. Its bytes are the first 32 of Xoshiro256++, seeded by SplitMix64 from `seed`. */
-YUREWHA_NONNULL(2) YUREWHA_SINCE(1.0)
+YUREWHA_NONNULL(2) YUREWHA_SINCE(1.1)
 void yurewha_random_from_seed(uint64_t seed, yurewha_hash *hash);
 
 /* Writes the 32 bytes of a hash: its words in order, each little-endian on every machine. */
-YUREWHA_NONNULL(1, 2) YUREWHA_SINCE(1.0)
+YUREWHA_NONNULL(1, 2) YUREWHA_SINCE(1.1)
 void yurewha_hash_to_bytes(const yurewha_hash *hash, yurewha_bytes *bytes);
 
 /* Writes the hash that has these 32 bytes. */
-YUREWHA_NONNULL(1, 2) YUREWHA_SINCE(1.0)
+YUREWHA_NONNULL(1, 2) YUREWHA_SINCE(1.1)
 void yurewha_hash_from_bytes(const yurewha_bytes *bytes, yurewha_hash *hash);
 
 /* Compares the words of two hashes in order. This is also the order of their hex texts. Returns -1, 0 or 1 if the first
  * hash is less, equal or greater. */
-YUREWHA_NODISCARD YUREWHA_NONNULL(1, 2) YUREWHA_SINCE(1.0)
+YUREWHA_NODISCARD YUREWHA_NONNULL(1, 2) YUREWHA_SINCE(1.1)
 int32_t yurewha_compare(const yurewha_hash *first, const yurewha_hash *second);
 
 /* Writes word 3 of a hash modulo `divisor`.
  *   DONE       the divisor isn't 0
  *   ARGUMENTS  the divisor is 0 */
-YUREWHA_NODISCARD YUREWHA_NONNULL(1, 3) YUREWHA_SINCE(1.0)
+YUREWHA_NODISCARD YUREWHA_NONNULL(1, 3) YUREWHA_SINCE(1.1)
 yurewha_status yurewha_remainder(const yurewha_hash *hash, uint64_t divisor, uint64_t *remainder);
 
 /* Writes the hashes of chunks whose data is in one buffer. The data of chunk i starts at `offsets[i]` and ends before
@@ -291,56 +318,144 @@ yurewha_status yurewha_data_hashes(const void *bytes, size_t length, const size_
  * first. So it isn't the hex of the 32 bytes of the hash, in which each word is little-endian. `length` always becomes 64.
  *   DONE  there is room for at least 64 bytes
  *   ROOM  there is room for fewer than 64 bytes */
-YUREWHA_NODISCARD YUREWHA_NONNULL(1, 4) YUREWHA_SINCE(1.0)
+YUREWHA_NODISCARD YUREWHA_NONNULL(1, 4) YUREWHA_SINCE(1.1)
 yurewha_status yurewha_hex(const yurewha_hash *hash, char *text, size_t room, size_t *length);
 
 /* Writes the hash that has this hex text. It allocates nothing.
  *   DONE  the text is 64 hex digits, lower or upper case
  *   TEXT  the text is anything else */
-YUREWHA_NODISCARD YUREWHA_NONNULL(3) YUREWHA_SINCE(1.0)
+YUREWHA_NODISCARD YUREWHA_NONNULL(3) YUREWHA_SINCE(1.1)
 yurewha_status yurewha_from_hex(const char *text, size_t length, yurewha_hash *hash);
 
 /* Writes the base64 text of a hash to `text`. The text is 43 characters of the URL-safe alphabet, without padding.
  * `length` always becomes 43. It allocates nothing.
  *   DONE  there is room for at least 43 bytes
  *   ROOM  there is room for fewer than 43 bytes */
-YUREWHA_NODISCARD YUREWHA_NONNULL(1, 4) YUREWHA_SINCE(1.0)
+YUREWHA_NODISCARD YUREWHA_NONNULL(1, 4) YUREWHA_SINCE(1.1)
 yurewha_status yurewha_base64(const yurewha_hash *hash, char *text, size_t room, size_t *length);
 
 /* Writes the hash that has this base64 text.
  *   DONE    the text is one that yurewha_base64 writes
  *   TEXT    it is any other text
  *   MEMORY  an allocation failed */
-YUREWHA_NODISCARD YUREWHA_NONNULL(3) YUREWHA_SINCE(1.0)
+YUREWHA_NODISCARD YUREWHA_NONNULL(3) YUREWHA_SINCE(1.1)
 yurewha_status yurewha_from_base64(const char *text, size_t length, yurewha_hash *hash);
 
 /* ---- The streaming hasher */
 
 /* Begins a hasher of the empty message under the data key. It computes the same as yurewha_data_hash. */
-YUREWHA_NONNULL(1) YUREWHA_SINCE(1.0)
+YUREWHA_NONNULL(1) YUREWHA_SINCE(1.1)
 void yurewha_hasher_begin_data(yurewha_hasher *hasher);
 
 /* Begins a hasher of the empty message under the internal key. It computes the same as yurewha_internal_node_hash. */
-YUREWHA_NONNULL(1) YUREWHA_SINCE(1.0)
+YUREWHA_NONNULL(1) YUREWHA_SINCE(1.1)
 void yurewha_hasher_begin_internal(yurewha_hasher *hasher);
 
 /* Begins a hasher of the empty message under any key of 32 bytes. */
-YUREWHA_NONNULL(1, 2) YUREWHA_SINCE(1.0)
+YUREWHA_NONNULL(1, 2) YUREWHA_SINCE(1.1)
 void yurewha_hasher_begin_keyed(yurewha_hasher *hasher, const yurewha_bytes *key);
 
 /* Returns the length of the message in bytes. */
-YUREWHA_NODISCARD YUREWHA_NONNULL(1) YUREWHA_SINCE(1.0)
+YUREWHA_NODISCARD YUREWHA_NONNULL(1) YUREWHA_SINCE(1.1)
 uint64_t yurewha_hasher_count(const yurewha_hasher *hasher);
 
 /* Appends a piece to the message.
  *   DONE   the message now has at most 2^64 - 1 bytes
  *   SIZES  it would have more */
-YUREWHA_NODISCARD YUREWHA_NONNULL(1) YUREWHA_SINCE(1.0)
+YUREWHA_NODISCARD YUREWHA_NONNULL(1) YUREWHA_SINCE(1.1)
 yurewha_status yurewha_hasher_update(yurewha_hasher *hasher, const void *piece, size_t length);
 
 /* Writes the keyed hash of the message. The hasher is unchanged, so it can take more pieces, and be finalized again. */
-YUREWHA_NONNULL(1, 2) YUREWHA_SINCE(1.0)
+YUREWHA_NONNULL(1, 2) YUREWHA_SINCE(1.1)
 void yurewha_hasher_finalize(const yurewha_hasher *hasher, yurewha_hash *hash);
+
+/* ---- The chunker: where Xet cuts a file into chunks */
+
+/* Each chunk of a file that comes in pieces:
+ *
+ *     yurewha_chunker chunker;
+ *     yurewha_chunker_begin(&chunker);
+ *     // For each piece:
+ *     while ((end = yurewha_chunker_next_boundary(&chunker, piece, length)) != 0) {
+ *         // The first `end` bytes of the piece are the end of a chunk.
+ *         piece += end;
+ *         length -= end;
+ *     }
+ *     // What is left of the piece belongs to the next chunk. After the last piece, yurewha_chunker_taken says how many bytes it has. */
+
+/* Begins a chunker at the beginning of a file, or of any chunk. */
+YUREWHA_NONNULL(1) YUREWHA_SINCE(1.1)
+void yurewha_chunker_begin(yurewha_chunker *chunker);
+
+/* Takes more of the file. If the chunk ends in the piece, returns after how many bytes of it, and takes no more than
+ * these: the next call begins with what follows. Otherwise takes the whole piece, and returns 0. A chunk may end with the
+ * piece.
+ *
+ * A chunk has 8192 to 131072 bytes, but the last of a file may have fewer. The chunks are the same in whatever pieces the
+ * file comes. */
+YUREWHA_NODISCARD YUREWHA_NONNULL(1) YUREWHA_SINCE(1.1)
+uint64_t yurewha_chunker_next_boundary(yurewha_chunker *chunker, const void *piece, size_t length);
+
+/* Returns how many bytes of the chunk were taken so far. If the file ends here, and there are any, they are its last
+ * chunk. */
+YUREWHA_NODISCARD YUREWHA_NONNULL(1) YUREWHA_SINCE(1.1)
+uint64_t yurewha_chunker_taken(const yurewha_chunker *chunker);
+
+/* ---- Hashers of files: the bytes of a file go in, and the hash by which Xet names it comes out */
+
+/* The hash of a file that comes in pieces:
+ *
+ *     yurewha_file_hasher hasher = {0};
+ *     yurewha_status status = yurewha_file_hasher_new(&hasher);
+ *     // For each piece, while `status` is YUREWHA_DONE:
+ *     status = yurewha_file_hasher_update(&hasher, piece, length);
+ *     // At the end:
+ *     status = yurewha_file_hasher_finish(&hasher, &hash);
+ *     yurewha_file_hasher_free(&hasher); */
+
+/* Makes a hasher of the empty file. The handle owns it.
+ *
+ * It cuts the bytes into chunks, as yurewha_chunker_next_boundary does, hashes these, and keeps none of the bytes. In
+ * pieces of up to 1 MiB, a file of random bytes takes less than 1 MB of memory, whatever its size. One whose chunks are
+ * all equal takes up to 160 bytes for each.
+ *   DONE    it is made
+ *   MEMORY  an allocation failed */
+YUREWHA_NODISCARD YUREWHA_NONNULL(1) YUREWHA_INITIALIZED(1) YUREWHA_SINCE(1.1)
+yurewha_status yurewha_file_hasher_new(yurewha_file_hasher *hasher);
+
+/* Appends a piece to the file.
+ *   DONE          it is appended
+ *   EMPTY_HANDLE  if and only if the handle is empty
+ *   SIZES         if and only if there is a hasher, and the file would have more than 2^64 - 1 bytes
+ *   MEMORY        an allocation failed; nothing of the piece is taken */
+YUREWHA_NODISCARD YUREWHA_NONNULL(1) YUREWHA_INITIALIZED(1) YUREWHA_SINCE(1.1)
+yurewha_status yurewha_file_hasher_update(yurewha_file_hasher *hasher, const void *piece, size_t length);
+
+/* Writes how many bytes the file has so far. It allocates nothing.
+ *   DONE          it is written
+ *   EMPTY_HANDLE  the handle is empty */
+YUREWHA_NODISCARD YUREWHA_NONNULL(1, 2) YUREWHA_INITIALIZED(1) YUREWHA_SINCE(1.1)
+yurewha_status yurewha_file_hasher_size(yurewha_file_hasher *hasher, uint64_t *size);
+
+/* Writes the root of the chunks of the file so far. More pieces can follow.
+ *   DONE          the hash is written
+ *   EMPTY_HANDLE  if and only if the handle is empty
+ *   MEMORY        an allocation failed */
+YUREWHA_NODISCARD YUREWHA_NONNULL(1, 2) YUREWHA_INITIALIZED(1) YUREWHA_SINCE(1.1)
+yurewha_status yurewha_file_hasher_root(yurewha_file_hasher *hasher, yurewha_hash *root);
+
+/* Writes the file hash, without a salt, of the file so far: the hash by which Xet names a file of these bytes. It is the
+ * one under 32 zero bytes. More pieces can follow. The statuses are those of yurewha_file_hasher_root. */
+YUREWHA_NODISCARD YUREWHA_NONNULL(1, 2) YUREWHA_INITIALIZED(1) YUREWHA_SINCE(1.1)
+yurewha_status yurewha_file_hasher_finish(yurewha_file_hasher *hasher, yurewha_hash *hash);
+
+/* Writes the file hash under a salt of the file so far. The statuses are those of yurewha_file_hasher_root. */
+YUREWHA_NODISCARD YUREWHA_NONNULL(1, 2, 3) YUREWHA_INITIALIZED(1) YUREWHA_SINCE(1.1)
+yurewha_status yurewha_file_hasher_finish_with_salt(yurewha_file_hasher *hasher, const yurewha_bytes *salt, yurewha_hash *hash);
+
+/* Frees what the handle owns, and leaves it empty. */
+YUREWHA_NONNULL(1) YUREWHA_INITIALIZED(1) YUREWHA_SINCE(1.1)
+void yurewha_file_hasher_free(yurewha_file_hasher *hasher);
 
 /* ---- Roots */
 
@@ -349,17 +464,17 @@ void yurewha_hasher_finalize(const yurewha_hasher *hasher, yurewha_hash *hash);
  *   DONE    the root is written
  *   SIZES   if and only if the sizes add up to more than 2^64 - 1
  *   MEMORY  an allocation failed; never with one chunk or none */
-YUREWHA_NODISCARD YUREWHA_NONNULL(3) YUREWHA_SINCE(1.0)
+YUREWHA_NODISCARD YUREWHA_NONNULL(3) YUREWHA_SINCE(1.1)
 yurewha_status yurewha_xorb_hash(const yurewha_chunk *chunks, size_t count, yurewha_hash *root);
 
 /* Writes the file hash of a list of chunks without a salt. With no chunks it is the default hash. Otherwise it is the hmac
  * of their root under 32 zero bytes. The statuses are those of yurewha_xorb_hash. */
-YUREWHA_NODISCARD YUREWHA_NONNULL(3) YUREWHA_SINCE(1.0)
+YUREWHA_NODISCARD YUREWHA_NONNULL(3) YUREWHA_SINCE(1.1)
 yurewha_status yurewha_file_hash(const yurewha_chunk *chunks, size_t count, yurewha_hash *hash);
 
 /* Writes the file hash of a list of chunks under a salt. With no chunks it is the default hash, whatever the salt.
  * Otherwise it is the hmac of their root under the bytes of the salt. The statuses are those of yurewha_xorb_hash. */
-YUREWHA_NODISCARD YUREWHA_NONNULL(3, 4) YUREWHA_SINCE(1.0)
+YUREWHA_NODISCARD YUREWHA_NONNULL(3, 4) YUREWHA_SINCE(1.1)
 yurewha_status yurewha_file_hash_with_salt(const yurewha_chunk *chunks, size_t count, const yurewha_bytes *salt,
                                            yurewha_hash *hash);
 
@@ -367,12 +482,12 @@ yurewha_status yurewha_file_hash_with_salt(const yurewha_chunk *chunks, size_t c
  * which nodes come before and after the given ones. It allocates nothing.
  *   DONE       the point is written
  *   ARGUMENTS  there is none */
-YUREWHA_NODISCARD YUREWHA_NONNULL(3) YUREWHA_SINCE(1.0)
+YUREWHA_NODISCARD YUREWHA_NONNULL(3) YUREWHA_SINCE(1.1)
 yurewha_status yurewha_find_stable_start(const yurewha_chunk *nodes, size_t count, size_t *point);
 
 /* Writes the last stable point of some nodes, as the number of nodes before it. It allocates nothing. The statuses are
  * those of yurewha_find_stable_start. */
-YUREWHA_NODISCARD YUREWHA_NONNULL(3) YUREWHA_SINCE(1.0)
+YUREWHA_NODISCARD YUREWHA_NONNULL(3) YUREWHA_SINCE(1.1)
 yurewha_status yurewha_find_stable_end(const yurewha_chunk *nodes, size_t count, size_t *point);
 
 /* ---- Subtrees: what is kept of a range of chunks, to merge it with its neighbours without the chunks */
@@ -382,7 +497,7 @@ yurewha_status yurewha_find_stable_end(const yurewha_chunk *nodes, size_t count,
  *   DONE    it is made
  *   SIZES   if and only if the sizes add up to more than 2^64 - 1
  *   MEMORY  an allocation failed */
-YUREWHA_NODISCARD YUREWHA_NONNULL(5) YUREWHA_SINCE(1.0)
+YUREWHA_NODISCARD YUREWHA_NONNULL(5) YUREWHA_INITIALIZED(5) YUREWHA_SINCE(1.1)
 yurewha_status yurewha_subtree_from_chunks(bool at_start, const yurewha_chunk *chunks, size_t count, bool at_end,
                                            yurewha_subtree *subtree);
 
@@ -390,46 +505,46 @@ yurewha_status yurewha_subtree_from_chunks(bool at_start, const yurewha_chunk *c
  *   DONE          it is copied
  *   MEMORY        an allocation failed
  *   EMPTY_HANDLE  if and only if the first handle is empty */
-YUREWHA_NODISCARD YUREWHA_NONNULL(1, 2) YUREWHA_SINCE(1.0)
+YUREWHA_NODISCARD YUREWHA_NONNULL(1, 2) YUREWHA_INITIALIZED(1) YUREWHA_INITIALIZED(2) YUREWHA_SINCE(1.1)
 yurewha_status yurewha_subtree_clone(yurewha_subtree *subtree, yurewha_subtree *copy);
 
 /* Writes whether two subtrees have the same marks, levels and nodes. The contract is for two handles, but a caller may
  * pass one handle twice, and finds it equal to itself. It allocates nothing.
  *   DONE          it is written
  *   EMPTY_HANDLE  a handle is empty */
-YUREWHA_NODISCARD YUREWHA_NONNULL(1, 2, 3) YUREWHA_SINCE(1.0)
+YUREWHA_NODISCARD YUREWHA_NONNULL(1, 2, 3) YUREWHA_INITIALIZED(1) YUREWHA_INITIALIZED(2) YUREWHA_SINCE(1.1)
 yurewha_status yurewha_subtree_equal(yurewha_subtree *first, yurewha_subtree *second, bool *equal);
 
 /* Writes the marks: whether no chunk comes before those of the subtree, and whether none comes after them. It allocates
  * nothing.
  *   DONE          they are written
  *   EMPTY_HANDLE  the handle is empty */
-YUREWHA_NODISCARD YUREWHA_NONNULL(1, 2, 3) YUREWHA_SINCE(1.0)
+YUREWHA_NODISCARD YUREWHA_NONNULL(1, 2, 3) YUREWHA_INITIALIZED(1) YUREWHA_SINCE(1.1)
 yurewha_status yurewha_subtree_marks(yurewha_subtree *subtree, bool *at_start, bool *at_end);
 
 /* Writes the total size of the chunks in bytes, which is the sum of the sizes of all nodes. It allocates nothing.
  *   DONE          it is written
  *   EMPTY_HANDLE  the handle is empty */
-YUREWHA_NODISCARD YUREWHA_NONNULL(1, 2) YUREWHA_SINCE(1.0)
+YUREWHA_NODISCARD YUREWHA_NONNULL(1, 2) YUREWHA_INITIALIZED(1) YUREWHA_SINCE(1.1)
 yurewha_status yurewha_subtree_total_size(yurewha_subtree *subtree, uint64_t *size);
 
 /* Writes the number of kept nodes. It allocates nothing.
  *   DONE          it is written
  *   EMPTY_HANDLE  the handle is empty */
-YUREWHA_NODISCARD YUREWHA_NONNULL(1, 2) YUREWHA_SINCE(1.0)
+YUREWHA_NODISCARD YUREWHA_NONNULL(1, 2) YUREWHA_INITIALIZED(1) YUREWHA_SINCE(1.1)
 yurewha_status yurewha_subtree_num_nodes(yurewha_subtree *subtree, size_t *count);
 
 /* Writes the number of levels. There is at least one. It allocates nothing.
  *   DONE          it is written
  *   EMPTY_HANDLE  the handle is empty */
-YUREWHA_NODISCARD YUREWHA_NONNULL(1, 2) YUREWHA_SINCE(1.0)
+YUREWHA_NODISCARD YUREWHA_NONNULL(1, 2) YUREWHA_INITIALIZED(1) YUREWHA_SINCE(1.1)
 yurewha_status yurewha_subtree_num_levels(yurewha_subtree *subtree, size_t *count);
 
 /* Writes the root of the chunks. Both ends of the subtree must be marked. It allocates nothing.
  *   DONE          the root is written
  *   ARGUMENTS     an end isn't marked, so there is no root yet
  *   EMPTY_HANDLE  the handle is empty */
-YUREWHA_NODISCARD YUREWHA_NONNULL(1, 2) YUREWHA_SINCE(1.0)
+YUREWHA_NODISCARD YUREWHA_NONNULL(1, 2) YUREWHA_INITIALIZED(1) YUREWHA_SINCE(1.1)
 yurewha_status yurewha_subtree_final_hash(yurewha_subtree *subtree, yurewha_hash *hash);
 
 /* Merges `other`, the subtree of the range that follows, into `subtree`. `subtree` becomes the canonical subtree of the
@@ -439,12 +554,12 @@ yurewha_status yurewha_subtree_final_hash(yurewha_subtree *subtree, yurewha_hash
  *   ARGUMENTS     if and only if neither handle is empty, and `subtree` is marked at its end or `other` at its start
  *   SIZES         if and only if neither of these applies, and the two sizes add up to more than 2^64 - 1
  *   MEMORY        an allocation failed */
-YUREWHA_NODISCARD YUREWHA_NONNULL(1, 2) YUREWHA_SINCE(1.0)
+YUREWHA_NODISCARD YUREWHA_NONNULL(1, 2) YUREWHA_INITIALIZED(1) YUREWHA_INITIALIZED(2) YUREWHA_SINCE(1.1)
 yurewha_status yurewha_subtree_merge_into(yurewha_subtree *subtree, yurewha_subtree *other);
 
 /* Does the same as yurewha_subtree_merge_into, and writes how many parents were hashed for it, or 2^64 - 1 if there were
  * more. The statuses are those of yurewha_subtree_merge_into. */
-YUREWHA_NODISCARD YUREWHA_NONNULL(1, 2, 3) YUREWHA_SINCE(1.0)
+YUREWHA_NODISCARD YUREWHA_NONNULL(1, 2, 3) YUREWHA_INITIALIZED(1) YUREWHA_INITIALIZED(2) YUREWHA_SINCE(1.1)
 yurewha_status yurewha_subtree_merge_into_counted(yurewha_subtree *subtree, yurewha_subtree *other, uint64_t *parents);
 
 /* Merges the subtrees of adjacent ranges, in order, into one. `merged` owns it. It is the canonical subtree of the
@@ -456,7 +571,7 @@ yurewha_status yurewha_subtree_merge_into_counted(yurewha_subtree *subtree, yure
  *                 or one other than the last at its end
  *   SIZES         if and only if neither of these applies, and the sizes of all ranges add up to more than 2^64 - 1
  *   MEMORY        an allocation failed */
-YUREWHA_NODISCARD YUREWHA_NONNULL(3) YUREWHA_SINCE(1.0)
+YUREWHA_NODISCARD YUREWHA_NONNULL(3) YUREWHA_INITIALIZED(1, 2) YUREWHA_INITIALIZED(3) YUREWHA_SINCE(1.1)
 yurewha_status yurewha_subtree_merge(yurewha_subtree *ranges, size_t count, yurewha_subtree *merged);
 
 /* Writes the compact JSON text of a subtree to `text`, and its length to `length`.
@@ -464,7 +579,7 @@ yurewha_status yurewha_subtree_merge(yurewha_subtree *ranges, size_t count, yure
  *   ROOM          the text doesn't fit, and `length` is the needed length
  *   MEMORY        an allocation failed
  *   EMPTY_HANDLE  if and only if the handle is empty */
-YUREWHA_NODISCARD YUREWHA_NONNULL(1, 4) YUREWHA_SINCE(1.0)
+YUREWHA_NODISCARD YUREWHA_NONNULL(1, 4) YUREWHA_INITIALIZED(1) YUREWHA_SINCE(1.1)
 yurewha_status yurewha_subtree_to_json(yurewha_subtree *subtree, char *text, size_t room, size_t *length);
 
 /* Reads a subtree from JSON text. The handle owns it. The value is an object with these members: `at_start` and `at_end`,
@@ -472,7 +587,7 @@ yurewha_status yurewha_subtree_to_json(yurewha_subtree *subtree, char *text, siz
  * `hash` in hex and its `size`. `nodes` has the left nodes of all levels, lowest level first, then the right nodes of all
  * levels, highest level first.
  *   DONE         it is read
- *   TEXT         the text isn't UTF-8, or isn't JSON
+ *   TEXT         the text isn't UTF-8, isn't JSON, or is nested more than 32 deep
  *   RULE + rule  the value breaks this rule, and none with a lower number:
  *                   1  it is an object
  *                   2  `nodes` and `levels` are arrays, and `at_start` and `at_end` are booleans
@@ -488,7 +603,7 @@ yurewha_status yurewha_subtree_to_json(yurewha_subtree *subtree, char *text, siz
  *                  12  without `at_start`, left nodes below the top end like the nodes before a first stable point
  *                  13  without `at_end`, right nodes below the top begin like the nodes after a last stable point
  *   MEMORY       an allocation failed; this may be returned instead of TEXT or a rule */
-YUREWHA_NODISCARD YUREWHA_NONNULL(3) YUREWHA_SINCE(1.0)
+YUREWHA_NODISCARD YUREWHA_NONNULL(3) YUREWHA_INITIALIZED(3) YUREWHA_SINCE(1.1)
 yurewha_status yurewha_subtree_from_json(const char *text, size_t length, yurewha_subtree *subtree);
 
 /* Makes a subtree from marks and flat lists. The handle owns it. `levels` has the number of left and right nodes of each
@@ -497,7 +612,7 @@ yurewha_status yurewha_subtree_from_json(const char *text, size_t length, yurewh
  *   DONE         it is made
  *   RULE + rule  they break this rule, from 5 to 13 of yurewha_subtree_from_json, and none of these with a lower number
  *   MEMORY       an allocation failed; this may be returned instead of a rule */
-YUREWHA_NODISCARD YUREWHA_NONNULL(7) YUREWHA_SINCE(1.0)
+YUREWHA_NODISCARD YUREWHA_NONNULL(7) YUREWHA_INITIALIZED(7) YUREWHA_SINCE(1.1)
 yurewha_status yurewha_subtree_from_flat(bool at_start, const yurewha_level *levels, size_t level_count,
                                          const yurewha_chunk *nodes, size_t node_count, bool at_end, yurewha_subtree *subtree);
 
@@ -507,12 +622,12 @@ yurewha_status yurewha_subtree_from_flat(bool at_start, const yurewha_level *lev
  *   ROOM          a list is longer than its room; nothing is written to either, and `level_count` and `node_count` are the
  *                 needed lengths
  *   EMPTY_HANDLE  if and only if the handle is empty */
-YUREWHA_NODISCARD YUREWHA_NONNULL(1, 6, 7) YUREWHA_SINCE(1.0)
+YUREWHA_NODISCARD YUREWHA_NONNULL(1, 6, 7) YUREWHA_INITIALIZED(1) YUREWHA_SINCE(1.1)
 yurewha_status yurewha_subtree_to_flat(yurewha_subtree *subtree, yurewha_level *levels, size_t level_room,
                                        yurewha_chunk *nodes, size_t node_room, size_t *level_count, size_t *node_count);
 
 /* Frees what the handle owns, and leaves it empty. */
-YUREWHA_NONNULL(1) YUREWHA_SINCE(1.0)
+YUREWHA_NONNULL(1) YUREWHA_INITIALIZED(1) YUREWHA_SINCE(1.1)
 void yurewha_subtree_free(yurewha_subtree *subtree);
 
 /* ---- Sessions: chunks by their positions, which come in any order */
@@ -540,12 +655,12 @@ void yurewha_subtree_free(yurewha_subtree *subtree);
 /* Makes a session without chunks. The handle owns it.
  *   DONE    it is made
  *   MEMORY  an allocation failed */
-YUREWHA_NODISCARD YUREWHA_NONNULL(1) YUREWHA_SINCE(1.0)
+YUREWHA_NODISCARD YUREWHA_NONNULL(1) YUREWHA_INITIALIZED(1) YUREWHA_SINCE(1.1)
 yurewha_status yurewha_session_new(yurewha_session *session);
 
 /* Makes a session without chunks that keeps no hashes, so that its memory is proportional to the number of its runs. It
  * counts as new each hash of a put, once. The handle owns it. The statuses are those of yurewha_session_new. */
-YUREWHA_NODISCARD YUREWHA_NONNULL(1) YUREWHA_SINCE(1.1)
+YUREWHA_NODISCARD YUREWHA_NONNULL(1) YUREWHA_INITIALIZED(1) YUREWHA_SINCE(1.1)
 yurewha_status yurewha_session_new_without_hashes(yurewha_session *session);
 
 /* Puts chunks at the positions from `first` on. Writes how many of their hashes the session didn't know, and counts each
@@ -557,14 +672,14 @@ yurewha_status yurewha_session_new_without_hashes(yurewha_session *session);
  *   SESSION_POSITIONS  otherwise, `first` plus the number of chunks is more than 2^64 - 1
  *   SIZES              otherwise, the sizes of all chunks add up to more than 2^64 - 1
  *   MEMORY             an allocation failed; this may be returned instead of the three above */
-YUREWHA_NODISCARD YUREWHA_NONNULL(1, 5) YUREWHA_SINCE(1.0)
+YUREWHA_NODISCARD YUREWHA_NONNULL(1, 5) YUREWHA_INITIALIZED(1) YUREWHA_SINCE(1.1)
 yurewha_status yurewha_session_put(yurewha_session *session, uint64_t first, const yurewha_chunk *chunks, size_t count,
                                    uint64_t *new_hashes);
 
 /* Writes whether a position is taken. It allocates nothing.
  *   DONE          it is written
  *   EMPTY_HANDLE  the handle is empty */
-YUREWHA_NODISCARD YUREWHA_NONNULL(1, 3) YUREWHA_SINCE(1.0)
+YUREWHA_NODISCARD YUREWHA_NONNULL(1, 3) YUREWHA_INITIALIZED(1) YUREWHA_SINCE(1.1)
 yurewha_status yurewha_session_taken(yurewha_session *session, uint64_t position, bool *taken);
 
 /* Writes the root of all chunks in the order of their positions.
@@ -572,12 +687,12 @@ yurewha_status yurewha_session_taken(yurewha_session *session, uint64_t position
  *   EMPTY_HANDLE  if and only if the handle is empty
  *   SESSION_GAP   if and only if there is a session, and the taken positions aren't exactly those from 0 to `total` - 1
  *   MEMORY        an allocation failed */
-YUREWHA_NODISCARD YUREWHA_NONNULL(1, 3) YUREWHA_SINCE(1.0)
+YUREWHA_NODISCARD YUREWHA_NONNULL(1, 3) YUREWHA_INITIALIZED(1) YUREWHA_SINCE(1.1)
 yurewha_status yurewha_session_root(yurewha_session *session, uint64_t total, yurewha_hash *root);
 
 /* Writes the file hash, without a salt, of all chunks in the order of their positions. It is the one under 32 zero bytes.
  * The statuses are those of yurewha_session_root. */
-YUREWHA_NODISCARD YUREWHA_NONNULL(1, 3) YUREWHA_SINCE(1.0)
+YUREWHA_NODISCARD YUREWHA_NONNULL(1, 3) YUREWHA_INITIALIZED(1) YUREWHA_SINCE(1.1)
 yurewha_status yurewha_session_finish(yurewha_session *session, uint64_t total, yurewha_hash *hash);
 
 /* Copies a session. The second handle owns the copy, which has the same chunks, knows the same hashes, and keeps hashes if
@@ -585,20 +700,20 @@ yurewha_status yurewha_session_finish(yurewha_session *session, uint64_t total, 
  *   DONE          it is copied
  *   MEMORY        an allocation failed
  *   EMPTY_HANDLE  if and only if the first handle is empty */
-YUREWHA_NODISCARD YUREWHA_NONNULL(1, 2) YUREWHA_SINCE(1.1)
+YUREWHA_NODISCARD YUREWHA_NONNULL(1, 2) YUREWHA_INITIALIZED(1) YUREWHA_INITIALIZED(2) YUREWHA_SINCE(1.1)
 yurewha_status yurewha_session_copy(yurewha_session *session, yurewha_session *copy);
 
 /* Writes the number of chunks of a session, which is that of taken positions. It allocates nothing. The time is
  * proportional to the number of runs.
  *   DONE          it is written
  *   EMPTY_HANDLE  the handle is empty */
-YUREWHA_NODISCARD YUREWHA_NONNULL(1, 2) YUREWHA_SINCE(1.1)
+YUREWHA_NODISCARD YUREWHA_NONNULL(1, 2) YUREWHA_INITIALIZED(1) YUREWHA_SINCE(1.1)
 yurewha_status yurewha_session_num_chunks(yurewha_session *session, uint64_t *count);
 
 /* Writes the sum of the sizes of all chunks of a session, in bytes. It allocates nothing.
  *   DONE          it is written
  *   EMPTY_HANDLE  the handle is empty */
-YUREWHA_NODISCARD YUREWHA_NONNULL(1, 2) YUREWHA_SINCE(1.1)
+YUREWHA_NODISCARD YUREWHA_NONNULL(1, 2) YUREWHA_INITIALIZED(1) YUREWHA_SINCE(1.1)
 yurewha_status yurewha_session_total_size(yurewha_session *session, uint64_t *size);
 
 /* Writes the first gap of a session from a position on and below `total`: adjacent free positions, as many as there are.
@@ -607,7 +722,7 @@ yurewha_status yurewha_session_total_size(yurewha_session *session, uint64_t *si
  *   DONE          they are written
  *   EMPTY_HANDLE  if and only if the handle is empty
  *   ARGUMENTS     if and only if there is a session, and each of these positions is taken */
-YUREWHA_NODISCARD YUREWHA_NONNULL(1, 4, 5) YUREWHA_SINCE(1.1)
+YUREWHA_NODISCARD YUREWHA_NONNULL(1, 4, 5) YUREWHA_INITIALIZED(1) YUREWHA_SINCE(1.1)
 yurewha_status yurewha_session_next_gap(yurewha_session *session, uint64_t position, uint64_t total, uint64_t *first,
                                         uint64_t *end);
 
@@ -615,20 +730,20 @@ yurewha_status yurewha_session_next_gap(yurewha_session *session, uint64_t posit
  * nothing.
  *   DONE          it is written
  *   EMPTY_HANDLE  the handle is empty */
-YUREWHA_NODISCARD YUREWHA_NONNULL(1, 2, 3) YUREWHA_SINCE(1.1)
+YUREWHA_NODISCARD YUREWHA_NONNULL(1, 2, 3) YUREWHA_INITIALIZED(1) YUREWHA_SINCE(1.1)
 yurewha_status yurewha_session_knows(yurewha_session *session, const yurewha_hash *hash, bool *known);
 
 /* Writes for each of some hashes 1 if a session knows it, and 0 if not. It allocates nothing.
  *   DONE          they are written
  *   EMPTY_HANDLE  if and only if the handle is empty
  *   ARGUMENTS     if and only if there is a session, and the two lists have different lengths */
-YUREWHA_NODISCARD YUREWHA_NONNULL(1) YUREWHA_SINCE(1.1)
+YUREWHA_NODISCARD YUREWHA_NONNULL(1) YUREWHA_INITIALIZED(1) YUREWHA_SINCE(1.1)
 yurewha_status yurewha_session_knows_each(yurewha_session *session, const yurewha_hash *hashes, size_t count, uint8_t *known,
                                           size_t known_count);
 
 /* Writes the file hash under a salt of all chunks in the order of their positions. Under 32 zero bytes it is that of
  * yurewha_session_finish. The statuses are those of yurewha_session_root. */
-YUREWHA_NODISCARD YUREWHA_NONNULL(1, 3, 4) YUREWHA_SINCE(1.1)
+YUREWHA_NODISCARD YUREWHA_NONNULL(1, 3, 4) YUREWHA_INITIALIZED(1) YUREWHA_SINCE(1.1)
 yurewha_status yurewha_session_finish_with_salt(yurewha_session *session, uint64_t total, const yurewha_bytes *salt,
                                                 yurewha_hash *hash);
 
@@ -636,7 +751,7 @@ yurewha_status yurewha_session_finish_with_salt(yurewha_session *session, uint64
  * any two of its runs, and its total size is that of the subtrees of all runs together. It allocates nothing.
  *   DONE          it is written
  *   EMPTY_HANDLE  the handle is empty */
-YUREWHA_NODISCARD YUREWHA_NONNULL(1, 2) YUREWHA_SINCE(1.0)
+YUREWHA_NODISCARD YUREWHA_NONNULL(1, 2) YUREWHA_INITIALIZED(1) YUREWHA_SINCE(1.1)
 yurewha_status yurewha_session_num_runs(yurewha_session *session, size_t *count);
 
 /* Writes the first position of a run of adjacent taken positions, and a copy of the subtree of its chunks. The subtree is
@@ -646,7 +761,7 @@ yurewha_status yurewha_session_num_runs(yurewha_session *session, size_t *count)
  *   EMPTY_HANDLE  if and only if the handle of the session is empty
  *   ARGUMENTS     if and only if there is a session, and it has no such run
  *   MEMORY        an allocation failed */
-YUREWHA_NODISCARD YUREWHA_NONNULL(1, 3, 4) YUREWHA_SINCE(1.0)
+YUREWHA_NODISCARD YUREWHA_NONNULL(1, 3, 4) YUREWHA_INITIALIZED(1) YUREWHA_INITIALIZED(4) YUREWHA_SINCE(1.1)
 yurewha_status yurewha_session_run(yurewha_session *session, size_t index, uint64_t *first, yurewha_subtree *range);
 
 /* Writes the first run that ends after a position: the run that holds it or else the next one. `first` gets the run's
@@ -657,12 +772,12 @@ yurewha_status yurewha_session_run(yurewha_session *session, size_t index, uint6
  *   EMPTY_HANDLE  if and only if the handle of the session is empty
  *   ARGUMENTS     if and only if there is a session, and no run ends after the position
  *   MEMORY        an allocation failed */
-YUREWHA_NODISCARD YUREWHA_NONNULL(1, 3, 4, 5) YUREWHA_SINCE(1.1)
+YUREWHA_NODISCARD YUREWHA_NONNULL(1, 3, 4, 5) YUREWHA_INITIALIZED(1) YUREWHA_INITIALIZED(5) YUREWHA_SINCE(1.1)
 yurewha_status yurewha_session_run_from(yurewha_session *session, uint64_t position, uint64_t *first, uint64_t *end,
                                         yurewha_subtree *range);
 
 /* Frees what the handle owns, and leaves it empty. */
-YUREWHA_NONNULL(1) YUREWHA_SINCE(1.0)
+YUREWHA_NONNULL(1) YUREWHA_INITIALIZED(1) YUREWHA_SINCE(1.1)
 void yurewha_session_free(yurewha_session *session);
 
 /* ---- Saving a session: its runs, by yurewha_session_run_from, and the hashes that it knows */
@@ -682,7 +797,7 @@ void yurewha_session_free(yurewha_session *session);
  *                 taken
  *   SIZES         otherwise, the sizes of all chunks add up to more than 2^64 - 1
  *   MEMORY        an allocation failed; this may be returned instead of the two above */
-YUREWHA_NODISCARD YUREWHA_NONNULL(1, 4) YUREWHA_SINCE(1.1)
+YUREWHA_NODISCARD YUREWHA_NONNULL(1, 4) YUREWHA_INITIALIZED(1) YUREWHA_INITIALIZED(4) YUREWHA_SINCE(1.1)
 yurewha_status yurewha_session_push_run(yurewha_session *session, uint64_t first, uint64_t end, yurewha_subtree *range);
 
 /* Keeps hashes, as if an earlier put had had them: the session then knows them. Its runs are unchanged. Hashes that no
@@ -691,20 +806,20 @@ yurewha_status yurewha_session_push_run(yurewha_session *session, uint64_t first
  *   EMPTY_HANDLE  if and only if the handle is empty
  *   ARGUMENTS     if and only if there are hashes, and a session that keeps none
  *   MEMORY        an allocation failed */
-YUREWHA_NODISCARD YUREWHA_NONNULL(1) YUREWHA_SINCE(1.1)
+YUREWHA_NODISCARD YUREWHA_NONNULL(1) YUREWHA_INITIALIZED(1) YUREWHA_SINCE(1.1)
 yurewha_status yurewha_session_keep_hashes(yurewha_session *session, const yurewha_hash *hashes, size_t count);
 
 /* Writes whether a session keeps the hashes of its chunks. It allocates nothing.
  *   DONE          it is written
  *   EMPTY_HANDLE  the handle is empty */
-YUREWHA_NODISCARD YUREWHA_NONNULL(1, 2) YUREWHA_SINCE(1.1)
+YUREWHA_NODISCARD YUREWHA_NONNULL(1, 2) YUREWHA_INITIALIZED(1) YUREWHA_SINCE(1.1)
 yurewha_status yurewha_session_keeps_hashes(yurewha_session *session, bool *keeps);
 
 /* Writes the number of hashes that a session knows: those that puts had and those that yurewha_session_keep_hashes kept,
  * each counted once. It allocates nothing.
  *   DONE          it is written
  *   EMPTY_HANDLE  the handle is empty */
-YUREWHA_NODISCARD YUREWHA_NONNULL(1, 2) YUREWHA_SINCE(1.1)
+YUREWHA_NODISCARD YUREWHA_NONNULL(1, 2) YUREWHA_INITIALIZED(1) YUREWHA_SINCE(1.1)
 yurewha_status yurewha_session_num_known_hashes(yurewha_session *session, size_t *count);
 
 /* Writes all hashes that a session knows, each once, in no particular order.
@@ -712,7 +827,7 @@ yurewha_status yurewha_session_num_known_hashes(yurewha_session *session, size_t
  *   EMPTY_HANDLE  if and only if the handle is empty
  *   ARGUMENTS     if and only if there is a session, and the length of the list isn't the number of hashes that it knows
  *   MEMORY        an allocation failed */
-YUREWHA_NODISCARD YUREWHA_NONNULL(1) YUREWHA_SINCE(1.1)
+YUREWHA_NODISCARD YUREWHA_NONNULL(1) YUREWHA_INITIALIZED(1) YUREWHA_SINCE(1.1)
 yurewha_status yurewha_session_known_hashes(yurewha_session *session, yurewha_hash *hashes, size_t count);
 
 /* Writes the compact JSON text of a session to `text`, and its length to `length`. Equal sessions have equal texts: runs
@@ -721,7 +836,7 @@ yurewha_status yurewha_session_known_hashes(yurewha_session *session, yurewha_ha
  *   ROOM          the text doesn't fit, and `length` is the needed length
  *   MEMORY        an allocation failed
  *   EMPTY_HANDLE  if and only if the handle is empty */
-YUREWHA_NODISCARD YUREWHA_NONNULL(1, 5) YUREWHA_SINCE(1.1)
+YUREWHA_NODISCARD YUREWHA_NONNULL(1, 5) YUREWHA_INITIALIZED(1) YUREWHA_SINCE(1.1)
 yurewha_status yurewha_session_to_json(yurewha_session *session, bool with_hashes, char *text, size_t room, size_t *length);
 
 /* Reads a session from JSON text. The handle owns it. If `keep_hashes` is false, the session keeps none, and those of the
@@ -732,7 +847,7 @@ yurewha_status yurewha_session_to_json(yurewha_session *session, bool with_hashe
  *
  * The call can't check that a subtree is of as many chunks as its run has positions, as yurewha_session_push_run can't.
  *   DONE                 it is read
- *   TEXT                 the text isn't UTF-8 or isn't JSON, or an object in it has a member twice
+ *   TEXT                 the text isn't UTF-8, isn't JSON, is nested more than 32 deep, or has a member twice in an object
  *   SESSION_RULE + rule  the value breaks this rule, and none with a lower number:
  *                          1  it is an object
  *                          2  `runs` and `known_hashes` are arrays
@@ -745,7 +860,7 @@ yurewha_status yurewha_session_to_json(yurewha_session *session, bool with_hashe
  *   RULE + rule          it breaks rule 5, and none with a lower number. The first `chunks` that is no subtree breaks this
  *                        rule of yurewha_subtree_from_json, and none with a lower number
  *   MEMORY               an allocation failed; this may be returned instead of TEXT or a rule */
-YUREWHA_NODISCARD YUREWHA_NONNULL(4) YUREWHA_SINCE(1.1)
+YUREWHA_NODISCARD YUREWHA_NONNULL(4) YUREWHA_INITIALIZED(4) YUREWHA_SINCE(1.1)
 yurewha_status yurewha_session_from_json(const char *text, size_t length, bool keep_hashes, yurewha_session *session);
 
 /* ---- Hash trees: all levels over a list of chunks, which make range proofs */
@@ -754,32 +869,32 @@ yurewha_status yurewha_session_from_json(const char *text, size_t length, bool k
  *   DONE    it is made
  *   SIZES   if and only if the sizes add up to more than 2^64 - 1
  *   MEMORY  an allocation failed */
-YUREWHA_NODISCARD YUREWHA_NONNULL(3) YUREWHA_SINCE(1.1)
+YUREWHA_NODISCARD YUREWHA_NONNULL(3) YUREWHA_INITIALIZED(3) YUREWHA_SINCE(1.1)
 yurewha_status yurewha_hash_tree_from_chunks(const yurewha_chunk *chunks, size_t count, yurewha_hash_tree *tree);
 
 /* Writes the root of the chunks. With no chunks it is the default hash. It allocates nothing.
  *   DONE          it is written
  *   EMPTY_HANDLE  the handle is empty */
-YUREWHA_NODISCARD YUREWHA_NONNULL(1, 2) YUREWHA_SINCE(1.1)
+YUREWHA_NODISCARD YUREWHA_NONNULL(1, 2) YUREWHA_INITIALIZED(1) YUREWHA_SINCE(1.1)
 yurewha_status yurewha_hash_tree_root(yurewha_hash_tree *tree, yurewha_hash *root);
 
 /* Writes the file hash of the chunks under a salt. With no chunks it is the default hash, whatever the salt. It allocates
  * nothing.
  *   DONE          it is written
  *   EMPTY_HANDLE  the handle is empty */
-YUREWHA_NODISCARD YUREWHA_NONNULL(1, 2, 3) YUREWHA_SINCE(1.1)
+YUREWHA_NODISCARD YUREWHA_NONNULL(1, 2, 3) YUREWHA_INITIALIZED(1) YUREWHA_SINCE(1.1)
 yurewha_status yurewha_hash_tree_file_hash(yurewha_hash_tree *tree, const yurewha_bytes *salt, yurewha_hash *hash);
 
 /* Writes the number of chunks. It allocates nothing.
  *   DONE          it is written
  *   EMPTY_HANDLE  the handle is empty */
-YUREWHA_NODISCARD YUREWHA_NONNULL(1, 2) YUREWHA_SINCE(1.1)
+YUREWHA_NODISCARD YUREWHA_NONNULL(1, 2) YUREWHA_INITIALIZED(1) YUREWHA_SINCE(1.1)
 yurewha_status yurewha_hash_tree_num_chunks(yurewha_hash_tree *tree, size_t *count);
 
 /* Writes the sum of the chunks' sizes, which is the size of the file in bytes. It allocates nothing.
  *   DONE          it is written
  *   EMPTY_HANDLE  the handle is empty */
-YUREWHA_NODISCARD YUREWHA_NONNULL(1, 2) YUREWHA_SINCE(1.1)
+YUREWHA_NODISCARD YUREWHA_NONNULL(1, 2) YUREWHA_INITIALIZED(1) YUREWHA_SINCE(1.1)
 yurewha_status yurewha_hash_tree_total_size(yurewha_hash_tree *tree, uint64_t *size);
 
 /* Writes the least range of chunks that holds the bytes of the file from the place `from` up to, but without, the place
@@ -788,7 +903,7 @@ yurewha_status yurewha_hash_tree_total_size(yurewha_hash_tree *tree, uint64_t *s
  *   DONE          they are written
  *   ARGUMENTS     if and only if there is a tree, and there are no such bytes
  *   EMPTY_HANDLE  if and only if the handle is empty */
-YUREWHA_NODISCARD YUREWHA_NONNULL(1, 4, 5) YUREWHA_SINCE(1.1)
+YUREWHA_NODISCARD YUREWHA_NONNULL(1, 4, 5) YUREWHA_INITIALIZED(1) YUREWHA_SINCE(1.1)
 yurewha_status yurewha_hash_tree_chunks_at(yurewha_hash_tree *tree, uint64_t from, uint64_t to, size_t *first, size_t *end);
 
 /* Writes where in the file the chunks from number `first` up to, but without, number `end` begin and end, in bytes. It
@@ -796,7 +911,7 @@ yurewha_status yurewha_hash_tree_chunks_at(yurewha_hash_tree *tree, uint64_t fro
  *   DONE          the two places are written
  *   ARGUMENTS     if and only if there is a tree, and `first` isn't less than `end` or there are fewer than `end` chunks
  *   EMPTY_HANDLE  if and only if the handle is empty */
-YUREWHA_NODISCARD YUREWHA_NONNULL(1, 4, 5) YUREWHA_SINCE(1.1)
+YUREWHA_NODISCARD YUREWHA_NONNULL(1, 4, 5) YUREWHA_INITIALIZED(1) YUREWHA_SINCE(1.1)
 yurewha_status yurewha_hash_tree_bytes_of(yurewha_hash_tree *tree, size_t first, size_t end, uint64_t *from, uint64_t *to);
 
 /* Writes the range proof of the chunks from number `first` up to, but without, number `end`, as flat lists. `levels` gets
@@ -810,7 +925,7 @@ yurewha_status yurewha_hash_tree_bytes_of(yurewha_hash_tree *tree, size_t first,
  *   ARGUMENTS     if and only if there is a tree, and `first` isn't less than `end` or there are fewer than `end` chunks
  *   MEMORY        an allocation failed
  *   EMPTY_HANDLE  if and only if the handle is empty */
-YUREWHA_NODISCARD YUREWHA_NONNULL(1, 8, 9) YUREWHA_SINCE(1.1)
+YUREWHA_NODISCARD YUREWHA_NONNULL(1, 8, 9) YUREWHA_INITIALIZED(1) YUREWHA_SINCE(1.1)
 yurewha_status yurewha_hash_tree_proof(yurewha_hash_tree *tree, size_t first, size_t end, yurewha_level *levels,
                                        size_t level_room, yurewha_chunk *nodes, size_t node_room, size_t *level_count,
                                        size_t *node_count);
@@ -821,7 +936,7 @@ yurewha_status yurewha_hash_tree_proof(yurewha_hash_tree *tree, size_t first, si
  * proportional to `count`.
  *   DONE          it is written
  *   EMPTY_HANDLE  a handle is empty */
-YUREWHA_NODISCARD YUREWHA_NONNULL(1, 2, 3) YUREWHA_SINCE(1.1)
+YUREWHA_NODISCARD YUREWHA_NONNULL(1, 2, 3) YUREWHA_INITIALIZED(1) YUREWHA_INITIALIZED(2) YUREWHA_SINCE(1.1)
 yurewha_status yurewha_hash_tree_common_prefix(yurewha_hash_tree *first, yurewha_hash_tree *second, size_t *count);
 
 /* Writes how many chunks two files have in common at the end, but at most `most`. If `most` is how many chunks the shorter
@@ -830,11 +945,11 @@ yurewha_status yurewha_hash_tree_common_prefix(yurewha_hash_tree *first, yurewha
  * proportional to `count`.
  *   DONE          it is written
  *   EMPTY_HANDLE  a handle is empty */
-YUREWHA_NODISCARD YUREWHA_NONNULL(1, 2, 4) YUREWHA_SINCE(1.1)
+YUREWHA_NODISCARD YUREWHA_NONNULL(1, 2, 4) YUREWHA_INITIALIZED(1) YUREWHA_INITIALIZED(2) YUREWHA_SINCE(1.1)
 yurewha_status yurewha_hash_tree_common_suffix(yurewha_hash_tree *first, yurewha_hash_tree *second, size_t most, size_t *count);
 
 /* Frees what the handle owns, and leaves it empty. */
-YUREWHA_NONNULL(1) YUREWHA_SINCE(1.1)
+YUREWHA_NONNULL(1) YUREWHA_INITIALIZED(1) YUREWHA_SINCE(1.1)
 void yurewha_hash_tree_free(yurewha_hash_tree *tree);
 
 /* ---- Range proofs: with one, whoever knows the hash of a file checks a part of it */
@@ -860,7 +975,7 @@ yurewha_status yurewha_range_proof_to_json(const yurewha_level *levels, size_t l
  *   DONE               the lists are written
  *   ROOM               a list is longer than its room; nothing is written to either, and `level_count` and `node_count`
  *                      are the needed lengths
- *   TEXT               the text isn't UTF-8, or isn't JSON
+ *   TEXT               the text isn't UTF-8, isn't JSON, or is nested more than 32 deep
  *   PROOF_RULE + rule  the value breaks this rule, and none with a lower number:
  *                        1  it is an object
  *                        2  `chunks` and `levels` are arrays
@@ -920,14 +1035,14 @@ yurewha_status yurewha_range_proof_check(const yurewha_level *levels, size_t lev
  *   PROOF_RULE + rule  the lists break this rule, from 5 to 8 of yurewha_range_proof_from_json, and none of these with a
  *                      lower number
  *   MEMORY             an allocation failed; this may be returned instead of the two above */
-YUREWHA_NODISCARD YUREWHA_NONNULL(5, 6, 7) YUREWHA_SINCE(1.1)
+YUREWHA_NODISCARD YUREWHA_NONNULL(5, 6, 7) YUREWHA_INITIALIZED(7) YUREWHA_SINCE(1.1)
 yurewha_status yurewha_range_proof_open(const yurewha_level *levels, size_t level_count, const yurewha_chunk *nodes,
                                         size_t node_count, const yurewha_hash *file_hash, const yurewha_bytes *salt,
                                         yurewha_opened_range *range);
 
 /* Opens a range proof with the root of the file's chunks, as yurewha_range_proof_open does with a file hash. The statuses
  * are those of yurewha_range_proof_open, with the root in place of the file hash. */
-YUREWHA_NODISCARD YUREWHA_NONNULL(5, 6) YUREWHA_SINCE(1.1)
+YUREWHA_NODISCARD YUREWHA_NONNULL(5, 6) YUREWHA_INITIALIZED(6) YUREWHA_SINCE(1.1)
 yurewha_status yurewha_range_proof_open_root(const yurewha_level *levels, size_t level_count, const yurewha_chunk *nodes,
                                              size_t node_count, const yurewha_hash *root, yurewha_opened_range *range);
 
@@ -935,13 +1050,13 @@ yurewha_status yurewha_range_proof_open_root(const yurewha_level *levels, size_t
  * was checked: it tells a reader where to cut, and no more. It allocates nothing.
  *   DONE          it is written
  *   EMPTY_HANDLE  the handle is empty */
-YUREWHA_NODISCARD YUREWHA_NONNULL(1, 2) YUREWHA_SINCE(1.1)
+YUREWHA_NODISCARD YUREWHA_NONNULL(1, 2) YUREWHA_INITIALIZED(1) YUREWHA_SINCE(1.1)
 yurewha_status yurewha_opened_range_file_size(yurewha_opened_range *range, uint64_t *size);
 
 /* Writes the number of chunks of the range. It allocates nothing.
  *   DONE          it is written
  *   EMPTY_HANDLE  the handle is empty */
-YUREWHA_NODISCARD YUREWHA_NONNULL(1, 2) YUREWHA_SINCE(1.1)
+YUREWHA_NODISCARD YUREWHA_NONNULL(1, 2) YUREWHA_INITIALIZED(1) YUREWHA_SINCE(1.1)
 yurewha_status yurewha_opened_range_num_chunks(yurewha_opened_range *range, size_t *count);
 
 /* Writes where in the file a chunk of the range begins and ends, in bytes, as the proof says it. The chunks of the range
@@ -949,7 +1064,7 @@ yurewha_status yurewha_opened_range_num_chunks(yurewha_opened_range *range, size
  *   DONE          the two places are written
  *   ARGUMENTS     if and only if there is a range, and it has no such chunk
  *   EMPTY_HANDLE  if and only if the handle is empty */
-YUREWHA_NODISCARD YUREWHA_NONNULL(1, 3, 4) YUREWHA_SINCE(1.1)
+YUREWHA_NODISCARD YUREWHA_NONNULL(1, 3, 4) YUREWHA_INITIALIZED(1) YUREWHA_SINCE(1.1)
 yurewha_status yurewha_opened_range_bytes_of(yurewha_opened_range *range, size_t chunk, uint64_t *from, uint64_t *to);
 
 /* Checks the data of a chunk of the range, and writes where in the file it begins, in bytes. The chunks of the range count
@@ -960,7 +1075,7 @@ yurewha_status yurewha_opened_range_bytes_of(yurewha_opened_range *range, size_t
  *   DONE          the hash and the length of the data are those of the chunk's node
  *   MISMATCH      they aren't, or the range has no such chunk
  *   EMPTY_HANDLE  if and only if the handle is empty */
-YUREWHA_NODISCARD YUREWHA_NONNULL(1, 5) YUREWHA_SINCE(1.1)
+YUREWHA_NODISCARD YUREWHA_NONNULL(1, 5) YUREWHA_INITIALIZED(1) YUREWHA_SINCE(1.1)
 yurewha_status yurewha_opened_range_check(yurewha_opened_range *range, size_t chunk, const void *data, size_t length,
                                           uint64_t *place);
 
@@ -973,12 +1088,12 @@ yurewha_status yurewha_opened_range_check(yurewha_opened_range *range, size_t ch
  *   DONE          the data is that of the range's chunks, and the range holds both places, which are in order
  *   MISMATCH      the data isn't, or the range doesn't hold the places, or `to` is less than `from`
  *   EMPTY_HANDLE  if and only if the handle is empty */
-YUREWHA_NODISCARD YUREWHA_NONNULL(1, 6) YUREWHA_SINCE(1.1)
+YUREWHA_NODISCARD YUREWHA_NONNULL(1, 6) YUREWHA_INITIALIZED(1) YUREWHA_SINCE(1.1)
 yurewha_status yurewha_opened_range_read(yurewha_opened_range *range, uint64_t from, uint64_t to, const void *data,
                                          size_t length, size_t *start);
 
 /* Frees what the handle owns, and leaves it empty. */
-YUREWHA_NONNULL(1) YUREWHA_SINCE(1.1)
+YUREWHA_NONNULL(1) YUREWHA_INITIALIZED(1) YUREWHA_SINCE(1.1)
 void yurewha_opened_range_free(yurewha_opened_range *range);
 
 /* ---- Parts of a file that is somewhere else: they are fetched, checked, and kept in a reader */
@@ -1002,7 +1117,7 @@ void yurewha_opened_range_free(yurewha_opened_range *range);
  * count at most `most`, where each counts its bytes and 128 for the memory beside them.
  *   DONE    it is made
  *   MEMORY  an allocation failed */
-YUREWHA_NODISCARD YUREWHA_NONNULL(1, 2, 4) YUREWHA_SINCE(1.1)
+YUREWHA_NODISCARD YUREWHA_NONNULL(1, 2, 4) YUREWHA_INITIALIZED(4) YUREWHA_SINCE(1.1)
 yurewha_status yurewha_reader_new(const yurewha_hash *file_hash, const yurewha_bytes *salt, uint64_t most,
                                   yurewha_reader *reader);
 
@@ -1016,7 +1131,7 @@ yurewha_status yurewha_reader_new(const yurewha_hash *file_hash, const yurewha_b
  * alone. If there is none, a chunk counts as used when it was before.
  *   DONE          it is copied and written
  *   EMPTY_HANDLE  if and only if the handle is empty */
-YUREWHA_NODISCARD YUREWHA_NONNULL(1, 6, 7) YUREWHA_SINCE(1.1)
+YUREWHA_NODISCARD YUREWHA_NONNULL(1, 6, 7) YUREWHA_INITIALIZED(1) YUREWHA_SINCE(1.1)
 yurewha_status yurewha_reader_read(yurewha_reader *reader, uint64_t from, uint8_t *bytes, size_t count, uint64_t piece,
                                    size_t *filled, uint64_t *end);
 
@@ -1026,7 +1141,7 @@ yurewha_status yurewha_reader_read(yurewha_reader *reader, uint64_t from, uint8_
  *   DONE          they are written
  *   ARGUMENTS     if and only if there is a reader, and it keeps all these bytes
  *   EMPTY_HANDLE  if and only if the handle is empty */
-YUREWHA_NODISCARD YUREWHA_NONNULL(1, 5, 6) YUREWHA_SINCE(1.1)
+YUREWHA_NODISCARD YUREWHA_NONNULL(1, 5, 6) YUREWHA_INITIALIZED(1) YUREWHA_SINCE(1.1)
 yurewha_status yurewha_reader_needs(yurewha_reader *reader, uint64_t from, uint64_t to, uint64_t piece, uint64_t *first,
                                     uint64_t *end);
 
@@ -1037,20 +1152,20 @@ yurewha_status yurewha_reader_needs(yurewha_reader *reader, uint64_t from, uint6
  *   DONE          it is written
  *   ARGUMENTS     if and only if there is a reader, and the size isn't known yet
  *   EMPTY_HANDLE  if and only if the handle is empty */
-YUREWHA_NODISCARD YUREWHA_NONNULL(1, 2) YUREWHA_SINCE(1.1)
+YUREWHA_NODISCARD YUREWHA_NONNULL(1, 2) YUREWHA_INITIALIZED(1) YUREWHA_SINCE(1.1)
 yurewha_status yurewha_reader_size(yurewha_reader *reader, uint64_t *size);
 
 /* Writes what all chunks of a reader count: their bytes, and 128 for each. It allocates nothing.
  *   DONE          it is written
  *   EMPTY_HANDLE  the handle is empty */
-YUREWHA_NODISCARD YUREWHA_NONNULL(1, 2) YUREWHA_SINCE(1.1)
+YUREWHA_NODISCARD YUREWHA_NONNULL(1, 2) YUREWHA_INITIALIZED(1) YUREWHA_SINCE(1.1)
 yurewha_status yurewha_reader_counted(yurewha_reader *reader, uint64_t *counted);
 
 /* Changes what all chunks of a reader may count to `most`. Drops the chunks that were used longest ago until they do. It
  * allocates nothing.
  *   DONE          it is changed
  *   EMPTY_HANDLE  if and only if the handle is empty */
-YUREWHA_NODISCARD YUREWHA_NONNULL(1) YUREWHA_SINCE(1.1)
+YUREWHA_NODISCARD YUREWHA_NONNULL(1) YUREWHA_INITIALIZED(1) YUREWHA_SINCE(1.1)
 yurewha_status yurewha_reader_keep_at_most(yurewha_reader *reader, uint64_t most);
 
 /* Moves the chunks of a part that were checked to a reader, one after another, and then drops the chunks that were used
@@ -1061,7 +1176,7 @@ yurewha_status yurewha_reader_keep_at_most(yurewha_reader *reader, uint64_t most
  *   ARGUMENTS     if and only if neither handle is empty, and the part is of another file hash or salt than the reader, or
  *                 its proof says another size of the file than is known
  *   EMPTY_HANDLE  if and only if a handle is empty */
-YUREWHA_NODISCARD YUREWHA_NONNULL(1, 2) YUREWHA_SINCE(1.1)
+YUREWHA_NODISCARD YUREWHA_NONNULL(1, 2) YUREWHA_INITIALIZED(1) YUREWHA_INITIALIZED(2) YUREWHA_SINCE(1.1)
 yurewha_status yurewha_reader_take(yurewha_reader *reader, yurewha_part *part);
 
 /* Opens a range proof with a file hash under a salt, for the bytes of the file from the place `from` up to, but without,
@@ -1079,20 +1194,10 @@ yurewha_status yurewha_reader_take(yurewha_reader *reader, yurewha_part *part);
  *   TOO_FAR            the range holds them, but begins more than `beyond` bytes before them, or ends more than that after
  *                      them. `begin` and `end` are written
  *   MEMORY             an allocation failed; this may be returned instead of another one */
-YUREWHA_NODISCARD YUREWHA_NONNULL(5, 6, 10, 11, 12) YUREWHA_SINCE(1.1)
+YUREWHA_NODISCARD YUREWHA_NONNULL(5, 6, 10, 11, 12) YUREWHA_INITIALIZED(12) YUREWHA_SINCE(1.1)
 yurewha_status yurewha_part_open(const yurewha_level *levels, size_t level_count, const yurewha_chunk *nodes,
                                  size_t node_count, const yurewha_hash *file_hash, const yurewha_bytes *salt, uint64_t from,
                                  uint64_t to, uint64_t beyond, uint64_t *begin, uint64_t *end, yurewha_part *part);
-
-/* Does the same as yurewha_part_open with a range proof that is JSON text, as yurewha_range_proof_from_json reads it.
- * Refuse a text that is too long before this call, as is said there. The other statuses are those of yurewha_part_open.
- *   TEXT               the text isn't UTF-8, or isn't JSON
- *   PROOF_RULE + rule  the value breaks this rule of yurewha_range_proof_from_json, and none with a lower number
- *   MEMORY             an allocation failed; this may be returned instead of another one */
-YUREWHA_NODISCARD YUREWHA_NONNULL(3, 4, 8, 9, 10) YUREWHA_SINCE(1.1)
-yurewha_status yurewha_part_open_json(const char *text, size_t length, const yurewha_hash *file_hash,
-                                      const yurewha_bytes *salt, uint64_t from, uint64_t to, uint64_t beyond, uint64_t *begin,
-                                      uint64_t *end, yurewha_part *part);
 
 /* Checks the data of all chunks of a part's range, which come one after another with nothing else, and finds the wanted
  * bytes in it: they are the `count` bytes from `data[start]` on, and are all that were asked for, or all up to the end of
@@ -1107,14 +1212,14 @@ yurewha_status yurewha_part_open_json(const char *text, size_t length, const yur
  *   DONE          the data is that of the range's chunks
  *   MISMATCH      it isn't. yurewha_part_checked says how much of it is
  *   EMPTY_HANDLE  if and only if the handle is empty */
-YUREWHA_NODISCARD YUREWHA_NONNULL(1, 5, 6) YUREWHA_SINCE(1.1)
+YUREWHA_NODISCARD YUREWHA_NONNULL(1, 5, 6) YUREWHA_INITIALIZED(1) YUREWHA_SINCE(1.1)
 yurewha_status yurewha_part_check(yurewha_part *part, const void *data, size_t length, bool keep, size_t *start, size_t *count);
 
 /* Writes the size of the file in bytes as the proof of a part says it. It is the proof's own word until data was checked.
  * It allocates nothing.
  *   DONE          it is written
  *   EMPTY_HANDLE  the handle is empty */
-YUREWHA_NODISCARD YUREWHA_NONNULL(1, 2) YUREWHA_SINCE(1.1)
+YUREWHA_NODISCARD YUREWHA_NONNULL(1, 2) YUREWHA_INITIALIZED(1) YUREWHA_SINCE(1.1)
 yurewha_status yurewha_part_file_size(yurewha_part *part, uint64_t *size);
 
 /* Writes how many chunks of a part's range the last yurewha_part_check found right, and where in the file they end, in
@@ -1122,15 +1227,15 @@ yurewha_status yurewha_part_file_size(yurewha_part *part, uint64_t *size);
  * place. If all chunks were right, these are the number of chunks and the end of the range. It allocates nothing.
  *   DONE          they are written
  *   EMPTY_HANDLE  the handle is empty */
-YUREWHA_NODISCARD YUREWHA_NONNULL(1, 2, 3) YUREWHA_SINCE(1.1)
+YUREWHA_NODISCARD YUREWHA_NONNULL(1, 2, 3) YUREWHA_INITIALIZED(1) YUREWHA_SINCE(1.1)
 yurewha_status yurewha_part_checked(yurewha_part *part, size_t *chunks, uint64_t *place);
 
 /* Frees what the handle owns, and leaves it empty. */
-YUREWHA_NONNULL(1) YUREWHA_SINCE(1.1)
+YUREWHA_NONNULL(1) YUREWHA_INITIALIZED(1) YUREWHA_SINCE(1.1)
 void yurewha_reader_free(yurewha_reader *reader);
 
 /* Frees what the handle owns, and leaves it empty. */
-YUREWHA_NONNULL(1) YUREWHA_SINCE(1.1)
+YUREWHA_NONNULL(1) YUREWHA_INITIALIZED(1) YUREWHA_SINCE(1.1)
 void yurewha_part_free(yurewha_part *part);
 
 /* ---- Indexes of hashes: a number for each of some hashes, such as where the chunk with this hash stands */
@@ -1138,7 +1243,7 @@ void yurewha_part_free(yurewha_part *part);
 /* Makes an index without hashes. The handle owns it.
  *   DONE    it is made
  *   MEMORY  an allocation failed */
-YUREWHA_NODISCARD YUREWHA_NONNULL(1) YUREWHA_SINCE(1.1)
+YUREWHA_NODISCARD YUREWHA_NONNULL(1) YUREWHA_INITIALIZED(1) YUREWHA_SINCE(1.1)
 yurewha_status yurewha_hash_index_new(yurewha_hash_index *index);
 
 /* Gives each hash of a list the number beside it in `numbers`, unless the hash has one already: the number that came first
@@ -1147,7 +1252,7 @@ yurewha_status yurewha_hash_index_new(yurewha_hash_index *index);
  *   EMPTY_HANDLE  if and only if the handle is empty
  *   ARGUMENTS     if and only if there is an index, and the two lists have different lengths
  *   MEMORY        an allocation failed */
-YUREWHA_NODISCARD YUREWHA_NONNULL(1, 6) YUREWHA_SINCE(1.1)
+YUREWHA_NODISCARD YUREWHA_NONNULL(1, 6) YUREWHA_INITIALIZED(1) YUREWHA_SINCE(1.1)
 yurewha_status yurewha_hash_index_insert(yurewha_hash_index *index, const yurewha_hash *hashes, size_t count,
                                          const uint64_t *numbers, size_t number_count, size_t *new_hashes);
 
@@ -1156,7 +1261,7 @@ yurewha_status yurewha_hash_index_insert(yurewha_hash_index *index, const yurewh
  *   DONE          they are written
  *   EMPTY_HANDLE  if and only if the handle is empty
  *   ARGUMENTS     if and only if there is an index, and the three lists don't have the same length */
-YUREWHA_NODISCARD YUREWHA_NONNULL(1) YUREWHA_SINCE(1.1)
+YUREWHA_NODISCARD YUREWHA_NONNULL(1) YUREWHA_INITIALIZED(1) YUREWHA_SINCE(1.1)
 yurewha_status yurewha_hash_index_find(yurewha_hash_index *index, const yurewha_hash *hashes, size_t count, uint8_t *found,
                                        size_t found_count, uint64_t *numbers, size_t number_count);
 
@@ -1165,18 +1270,18 @@ yurewha_status yurewha_hash_index_find(yurewha_hash_index *index, const yurewha_
  *   DONE          they are written
  *   EMPTY_HANDLE  if and only if the handle is empty
  *   ARGUMENTS     if and only if there is an index, and the length of a list isn't the number of its hashes */
-YUREWHA_NODISCARD YUREWHA_NONNULL(1) YUREWHA_SINCE(1.1)
+YUREWHA_NODISCARD YUREWHA_NONNULL(1) YUREWHA_INITIALIZED(1) YUREWHA_SINCE(1.1)
 yurewha_status yurewha_hash_index_entries(yurewha_hash_index *index, yurewha_hash *hashes, size_t count, uint64_t *numbers,
                                           size_t number_count);
 
 /* Writes how many hashes have a number. It allocates nothing.
  *   DONE          it is written
  *   EMPTY_HANDLE  the handle is empty */
-YUREWHA_NODISCARD YUREWHA_NONNULL(1, 2) YUREWHA_SINCE(1.1)
+YUREWHA_NODISCARD YUREWHA_NONNULL(1, 2) YUREWHA_INITIALIZED(1) YUREWHA_SINCE(1.1)
 yurewha_status yurewha_hash_index_len(yurewha_hash_index *index, size_t *count);
 
 /* Frees what the handle owns, and leaves it empty. */
-YUREWHA_NONNULL(1) YUREWHA_SINCE(1.1)
+YUREWHA_NONNULL(1) YUREWHA_INITIALIZED(1) YUREWHA_SINCE(1.1)
 void yurewha_hash_index_free(yurewha_hash_index *index);
 
 #ifdef __cplusplus

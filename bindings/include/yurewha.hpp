@@ -7,6 +7,7 @@
 //   the exceptions that yurewha.h names. A result is a std::optional where YUREWHA_ARGUMENTS says only that there is none.
 // - An object owns one handle. After a move the other object is empty: it may be assigned to and destroyed, and a call by it throws
 //   YUREWHA_EMPTY_HANDLE.
+// - What yurewha_set_allocator gets are noexcept functions, so that one that may throw doesn't compile.
 // - Threads may call const functions of one object at once. While a thread calls another function of it, no other thread may use it.
 #ifndef YUREWHA_HPP
 #define YUREWHA_HPP
@@ -15,6 +16,8 @@
 
 #include <cstddef>
 #include <cstdint>
+#include <functional>
+#include <iosfwd>
 #include <iterator>
 #include <new>
 #include <optional>
@@ -329,6 +332,24 @@ private:
     return result;
 }
 
+} // namespace yurewha
+
+// Writes a hash to a stream as hex text.
+template <class Traits>
+std::basic_ostream<char, Traits> &operator<<(std::basic_ostream<char, Traits> &stream, const yurewha_hash &of)
+{
+    const std::string text = yurewha::hex(of);
+    return stream << std::basic_string_view<char, Traits>(text.data(), text.size());
+}
+
+// For std::unordered_map and others: the first word. Whoever chooses hashes can make these values equal, so a map of a stranger's
+// hashes needs a hash function with a secret of its own, or std::map.
+template <> struct std::hash<yurewha_hash> {
+    [[nodiscard]] std::size_t operator()(const yurewha_hash &of) const noexcept { return of.words[0]; }
+};
+
+namespace yurewha {
+
 // A streaming hasher, which may be copied.
 class hasher {
 public:
@@ -366,6 +387,40 @@ public:
 private:
     hasher() noexcept = default;
     yurewha_hasher hasher_;
+};
+
+// Finds where Xet cuts a file, from its beginning or that of any chunk. It may be copied.
+class chunker {
+public:
+    chunker() noexcept { yurewha_chunker_begin(&chunker_); }
+    // Takes more of the file. If the chunk ends in the piece, returns after how many bytes of it, and takes no more than these.
+    [[nodiscard]] std::optional<std::size_t> next_boundary(data_view piece) noexcept
+    {
+        const std::uint64_t end = yurewha_chunker_next_boundary(&chunker_, piece.data(), piece.size());
+        return end != 0 ? std::optional(static_cast<std::size_t>(end)) : std::nullopt;
+    }
+    // How many bytes of the chunk were taken so far.
+    [[nodiscard]] std::uint64_t taken() const noexcept { return yurewha_chunker_taken(&chunker_); }
+
+private:
+    yurewha_chunker chunker_;
+};
+
+// A hasher of a file, which cuts it, too.
+class file_hasher : public detail::owner<yurewha_file_hasher, yurewha_file_hasher_free> {
+public:
+    file_hasher() { detail::check(yurewha_file_hasher_new(get())); }
+
+    file_hasher &update(data_view piece)
+    {
+        detail::check(yurewha_file_hasher_update(get(), piece.data(), piece.size()));
+        return *this;
+    }
+    [[nodiscard]] std::uint64_t size() const { return ask<std::uint64_t>(yurewha_file_hasher_size); }
+    [[nodiscard]] hash root() const { return ask<hash>(yurewha_file_hasher_root); }
+    // The hashes of the file so far. More pieces can follow.
+    [[nodiscard]] hash finish() const { return ask<hash>(yurewha_file_hasher_finish); }
+    [[nodiscard]] hash finish_with_salt(const bytes &salt) const { return ask<hash>(yurewha_file_hasher_finish_with_salt, &salt); }
 };
 
 [[nodiscard]] inline hash xorb_hash(view<chunk> chunks)
@@ -747,16 +802,11 @@ public:
     // Throws a misplaced_range if the proof is of other bytes, or of too many beside them.
     part(const range_proof &proof, const hash &file_hash, const bytes &salt, std::uint64_t from, std::uint64_t to, std::uint64_t beyond)
     {
-        open(yurewha_part_open(proof.levels.data(), proof.levels.size(), proof.nodes.data(), proof.nodes.size(), &file_hash, &salt, from,
-                               to, beyond, &place_.first, &place_.end, get()));
-    }
-    [[nodiscard]] static part open_json(std::string_view text, const hash &file_hash, const bytes &salt, std::uint64_t from,
-                                        std::uint64_t to, std::uint64_t beyond)
-    {
-        part result;
-        result.open(yurewha_part_open_json(text.data(), text.size(), &file_hash, &salt, from, to, beyond, &result.place_.first,
-                                           &result.place_.end, result.get()));
-        return result;
+        const yurewha_status told = yurewha_part_open(proof.levels.data(), proof.levels.size(), proof.nodes.data(), proof.nodes.size(),
+                                                      &file_hash, &salt, from, to, beyond, &place_.first, &place_.end, get());
+        if (told == YUREWHA_ELSEWHERE || told == YUREWHA_TOO_FAR)
+            throw misplaced_range(told, place_);
+        detail::check(told);
     }
 
     // The bytes of the file whose data is checked.
@@ -778,13 +828,6 @@ public:
     }
 
 private:
-    part() noexcept = default;
-    void open(yurewha_status told) const
-    {
-        if (told == YUREWHA_ELSEWHERE || told == YUREWHA_TOO_FAR)
-            throw misplaced_range(told, place_);
-        detail::check(told);
-    }
     interval<std::uint64_t> place_{};
 };
 

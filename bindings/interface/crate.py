@@ -12,7 +12,8 @@ from typing import NamedTuple
 from exports import CRATE, SCALARS, STRUCTS, Call, in_c, parts_of
 from header import FOR_C, ROOT, Export, Header, Member, Struct, Unreadable, of_data
 
-HASHER_CRATE = ROOT / "crates/keyed_blake3/src"
+#: The crates whose structs cross as they are.
+STRUCT_CRATES = [ROOT / "crates" / name / "src" for name in ("keyed_blake3", "xet_chunker")]
 #: The calls that aren't proved: dist/processor_level.c and dist/heap.c have them.
 UNPROVED = ("yurewha_processor_level", FOR_C)
 #: The struct whose members are private to the library, which uses the bytes that the header says.
@@ -111,4 +112,4 @@ def differences(header: Header, calls: list[Call]) -> Iterator[str]:
     text = sources(CRATE)
     yield from of_exports(header, calls)
     yield from of_statuses(header, text)
-    yield from of_structs(header, f"{text}\n{sources(HASHER_CRATE)}")
+    yield from of_structs(header, "\n".join([text, *map(sources, STRUCT_CRATES)]))

@@ -10,10 +10,11 @@ from header import FOR_C, Export, Header, Unreadable
 
 #: The call that returns a text. Like the one that is for C alone, it has no arguments that a line could have.
 TELLS_TEXT = "yurewha_processor_level"
-#: The calls that change their first handle or hasher. The others leave what they read unchanged.
+#: The calls that change their first handle, hasher or chunker. The others leave what they read unchanged.
 CHANGES_FIRST = ("yurewha_hasher_update", "yurewha_subtree_merge_into", "yurewha_subtree_merge_into_counted", "yurewha_session_put",
                  "yurewha_session_push_run", "yurewha_session_keep_hashes", "yurewha_reader_read", "yurewha_reader_keep_at_most",
-                 "yurewha_reader_take", "yurewha_part_check", "yurewha_hash_index_insert")
+                 "yurewha_reader_take", "yurewha_part_check", "yurewha_hash_index_insert", "yurewha_chunker_next_boundary",
+                 "yurewha_file_hasher_update")
 #: The calls that read their last handle, and those that empty it. Any other call that has one makes it.
 READS_LAST = ("yurewha_subtree_merge_into", "yurewha_session_push_run")
 EMPTIES_LAST = ("yurewha_reader_take",)

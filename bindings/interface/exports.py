@@ -18,6 +18,7 @@ STRUCTS = {
     "Chunk": "yurewha_chunk",
     "Level": "yurewha_level",
     "Hasher": "yurewha_hasher",
+    "Chunker": "yurewha_chunker",
     "SubtreeHandle": "yurewha_subtree",
     "SessionHandle": "yurewha_session",
     "HashTreeHandle": "yurewha_hash_tree",
@@ -25,6 +26,7 @@ STRUCTS = {
     "PartHandle": "yurewha_part",
     "ReaderHandle": "yurewha_reader",
     "HashIndexHandle": "yurewha_hash_index",
+    "FileHasherHandle": "yurewha_file_hasher",
 }
 #: What C calls a parameter that has another name in the crate. In a contract, `length` and `result` mean something else.
 NAMES = {"room": "text", "text_len": "length", "level_len": "level_count", "node_len": "node_count", "byte_len": "byte_count", "keyed": "result"}

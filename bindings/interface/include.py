@@ -11,13 +11,15 @@ from collections.abc import Iterable
 from pathlib import Path
 from typing import NamedTuple
 
-from exports import CRATE, NAMES, Call
+from exports import CRATE, NAMES, STRUCTS, Call
 from header import Unreadable
 
 TEMPLATE = Path(__file__).with_name("yurewha.h.in")
 #: Where the exports of some modules come.
 PLACE = re.compile(r"^@(.*)@\n", re.M)
 WIDTH = 126
+#: The types of pointers to handles.
+HANDLES = {f"{of_c} *" for name, of_c in STRUCTS.items() if name.endswith("Handle")}
 SPAN = re.compile(r"`([^`]+)`")
 #: What begins a point or a rule.
 LABEL = re.compile(r"- (`[A-Z_]+`(?: \+ rule)?): |  (\d+)\. ")
@@ -83,12 +85,21 @@ def comment(listed: list[Block]) -> str:
     return "/*" + "\n".join(lines).removeprefix(" *") + " */\n"
 
 
+def handles(call: Call) -> list[str]:
+    """The numbers of the parameters that are handles. A call reads each, since it frees what a handle owned to which it writes. The
+    number of a list's length follows that of the list."""
+    found = [(number, it) for number, it in enumerate(call.parameters, 1) if it.type in HANDLES]
+    return [str(number) if it.is_reference else f"{number}, {number + 1}" for number, it in found]
+
+
 def declaration(call: Call, version: str) -> str:
     """The declaration of an export, below its attributes."""
     references = [str(number) for number, it in enumerate(call.parameters, 1) if it.is_reference]
+    initialized = [f"YUREWHA_INITIALIZED({it})" for it in handles(call)]
     attributes = [
         *(["YUREWHA_NODISCARD"] if call.answer != "void" else []),
         *([f"YUREWHA_NONNULL({', '.join(references)})"] if references else []),
+        *initialized,
         f"YUREWHA_SINCE({version})",
     ]
     start = f"{call.answer} {call.name}("
@@ -102,7 +113,7 @@ def export(call: Call) -> str:
     *said, last = blocks(call) or [Block("", "")]
     version = re.fullmatch(r"Since (\d+\.\d+)\.", last.text)
     if not version or not said:
-        raise Unreadable(f"{call.name}: its comment has to end with the version that first had it, as in `Since 1.0.`", CRATE)
+        raise Unreadable(f"{call.name}: its comment has to end with the version that first had it, as in `Since 1.1.`", CRATE)
     return comment(said) + declaration(call, version[1])
 
 

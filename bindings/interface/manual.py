@@ -29,7 +29,7 @@ FOOT = """\
 .BR xetrange (1)
 """
 #: The first version. The page doesn't say of its calls since when they are there.
-FIRST = "1.0"
+FIRST = "1.1"
 #: What may begin a line of a comment: a status with what it means, a number with its rule, or a point of a list.
 ITEM = re.compile(r"\s*([A-Z]+(?:_[A-Z]+)*(?: \+ rule)?|\d+)(?:\s\s+)(\S.*)|- (.*)")
 

@@ -29,7 +29,7 @@ except ImportError:  # before setuptools 70.1
 
 PACKED = Path("native")
 #: The folders of the repository that have the files, and what a source distribution takes of them.
-FOLDERS = {Path("../../dist"): ("*.c", "x86-64*.s", "aarch64.s", "macos-*.s", "targets.txt"), Path("../include"): ("yurewha.h",)}
+FOLDERS = {Path("../../dist"): ("*.c", "*.S", "assembly.h", "targets.txt"), Path("../include"): ("yurewha.h",)}
 IS_MACOS = sys.platform == "darwin"
 NAME = "libyurewha.1.dylib" if IS_MACOS else "libyurewha.so.1"
 #: What the wheel has: a library that is compiled here if this is empty.
@@ -58,13 +58,13 @@ def copy_files(to: Path) -> None:
 def sources(processor: str, folder: Path) -> list[str]:
     """The files of a folder that make the library for a processor, which are listed in targets.txt."""
     lines = [line.split() for line in (folder / "targets.txt").read_text(encoding="utf-8").splitlines()]
-    levels = [f"{'macos-' if IS_MACOS else ''}{words[0]}" for words in lines if words[0] != "#" and words[1] == processor]
+    levels = [words[0] for words in lines if words[0] != "#" and words[1] == processor]
     if not levels:
         raise SystemExit(
             f"yurewha: there is no library for {processor}: it is compiled for Linux and macOS on x86_64 and aarch64; for Windows on "
             "x86_64, YUREWHA_LIBRARY names the DLL that `make` builds; elsewhere a Linux container runs it, and the JavaScript package "
             "runs as it is")
-    return [str(folder / name) for name in ("processor_level.c", "heap.c", *(f"{level}.s" for level in levels))]
+    return [str(folder / name) for name in ("processor_level.c", "heap.c", *(f"{level}.S" for level in levels))]
 
 
 class SourcesWithFiles(sdist):
@@ -106,7 +106,7 @@ class BuildLibrary(build_ext):
         if self.takes(PROTECTIONS[processor]):
             extension.extra_compile_args.append(PROTECTIONS[processor])
             extension.extra_link_args.append("-nostartfiles")
-        self.compiler.src_extensions.append(".s")
+        self.compiler.src_extensions.append(".S")
         super().build_extension(extension)
 
     def build_for_macos(self, folder: Path, to: Path) -> None:

@@ -14,7 +14,7 @@ fn main() {
     if env::var_os(PAGES_ONLY).is_some() {
         return;
     }
-    let levels = levels().unwrap_or_else(|message| {
+    let assembly = assembly().unwrap_or_else(|message| {
         eprintln!("yurewha: {message}");
         exit(1);
     });
@@ -28,9 +28,10 @@ fn main() {
     for name in ["processor_level.c", "heap.c"] {
         build.file(of_library(name));
     }
-    for level in levels {
-        build.file(of_library(&format!("{level}.s")));
+    for name in assembly {
+        build.file(of_library(&name));
     }
+    of_library("assembly.h");
     println!("cargo:rerun-if-changed={HEADERS}/yurewha.h");
     if let Err(error) = build.include(HEADERS).try_compile("yurewha") {
         eprintln!("yurewha: the C compiler can't compile the files of the library: {error}");
@@ -46,7 +47,7 @@ fn of_library(name: &str) -> String {
 }
 
 // The files of assembly for the target, one for each level of its processor. There are none for most targets.
-fn levels() -> Result<Vec<String>, String> {
+fn assembly() -> Result<Vec<String>, String> {
     let of_target = |name| env::var(format!("CARGO_CFG_TARGET_{name}")).unwrap_or_default();
     let arch = of_target("ARCH");
     let kind = ["OS", "POINTER_WIDTH", "ENDIAN"].map(of_target);
@@ -55,15 +56,10 @@ fn levels() -> Result<Vec<String>, String> {
     let lines = text.lines().filter(|line| !line.starts_with('#'));
     let lines = lines.map(|line| line.split_whitespace().collect::<Vec<_>>());
     let levels = lines.filter(|words| words[1] == arch).map(|words| words[0]);
-    // The assembly for Windows and macOS has the same levels.
     let is_for_windows = kind == ["windows", "64", "little"] && arch == "x86_64" && of_target("ENV") == "gnu";
     let is_for_macos = kind == ["macos", "64", "little"];
-    let prefix = match (is_for_windows, is_for_macos) {
-        (true, _) => "windows-",
-        (_, true) => "macos-",
-        _ => "",
-    };
-    let names: Vec<_> = levels.map(|level| format!("{prefix}{level}")).collect();
+    let (before, ending) = if is_for_windows { ("windows-", "s") } else { ("", "S") };
+    let names: Vec<_> = levels.map(|level| format!("{before}{level}.{ending}")).collect();
     if names.is_empty() || !(is_for_windows || is_for_macos || kind == ["linux", "64", "little"]) {
         let target = env::var("TARGET").unwrap_or_default();
         return Err(format!(

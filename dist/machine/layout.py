@@ -14,6 +14,7 @@ from assemblers import ASSEMBLERS  # noqa: E402
 from cut import END, table_of, without_kernels  # noqa: E402
 from image import linked  # noqa: E402
 from levels import Level, levels, levels_for_windows  # noqa: E402
+from systems import text_of  # noqa: E402
 from x86_64.machine import X86, WindowsX86  # noqa: E402
 
 if TYPE_CHECKING:
@@ -38,12 +39,12 @@ class Library:
         self.level = level
         tools = ASSEMBLERS[level.platform]
         compiler = tools.gcc if assembler == "gcc" else tools.clang
-        texts = [level.assembly.read_text() if text is None else text]
+        texts = [text_of(level) if text is None else text]
         if level.has_kernels:
             texts.append(_CHOICE.format(table_of(level)) + ("" if level.is_for_windows else END))
         if not level.is_library:
             library = _LIBRARIES[level.platform]
-            texts.append(without_kernels(library, library.assembly.read_text()))
+            texts.append(without_kernels(library, text_of(library)))
         files = [work / f"part{i}.s" for i, _ in enumerate(texts)]
         for file, part in zip(files, texts):
             file.write_text(part)
@@ -88,6 +89,6 @@ def of_groups(name: str) -> str:
 def part_of(text: str, function: str) -> Tuple[int, int]:
     """Where a function begins and ends in a file of assembly: one of keyed_blake3, or one that takes groups of nodes."""
     start = text.index(f'\n"{function if function.startswith(of_groups("")) else inner(function)}":\n')
-    end = re.compile(r"\.Lfunc_end|\.seh_endproc").search(text, start)
+    end = re.compile(r"\.(?:cfi|seh)_endproc").search(text, start)
     assert end
     return start, end.start()

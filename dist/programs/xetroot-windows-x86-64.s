@@ -1,5 +1,5 @@
 /* Yurewha 1.1.0 for windows-x86-64: the proved program xetroot, as the toolchain compiles it. Made by dist/make, not by hand.
-   The sum of its sources: 9872d53c929bda9be378287cec7fe897937dd66b31ec97704b07050464399ca0 */
+   The sum of its sources: e2454da47c57a2dd8ee3964cc3ea6ecc76abd22674a47b11f1512ec58cf853a8 */
 	.section	.text
 	.p2align	4
 	.def	"std_alloc::vec::Vec::grow_amortized::<#bc82ad78765e08fe>";

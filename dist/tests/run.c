@@ -17,7 +17,7 @@ static void handler(int number)
     signal_number = number;
 }
 
-static char *given[] = {"name", "", "a", "four", "\xff\xfe", NULL};
+static char *given[] = {"name\xff", "", "a", "four", "\xc3\xbc", NULL};
 #define GIVEN (sizeof given / sizeof *given - 1)
 /* How many of these words the program gets. */
 static size_t given_count;
@@ -28,7 +28,7 @@ static void expect_argument(size_t index, size_t room)
     uint8_t text[ROOM];
     memset(text, '?', sizeof text);
     const int64_t length = yurewha_run_argument(index, text, room);
-    const char *word = index < given_count ? given[index] : NULL;
+    const char *word = index >= given_count ? NULL : index == 0 ? "" : given[index];
     if (word == NULL)
         expect(length == -1, "there is no word", "argument");
     else if (strlen(word) > room)
@@ -49,8 +49,26 @@ int32_t yurewha_program(void)
     return 7;
 }
 
+/* Words at the ends of what UTF-8 allows, and beside these. */
+static void words_are_utf8(void)
+{
+    static char *const right[] = {"", "abc", "\x7f", "\xc2\x80", "\xdf\xbf", "\xe0\xa0\x80", "\xed\x9f\xbf", "\xee\x80\x80",
+                                 "\xef\xbf\xbf", "\xf0\x90\x80\x80", "\xf4\x8f\xbf\xbf", "a\xc3\xbcz"};
+    static char *const wrong[] = {"\x80", "\xbf", "\xc1\xbf", "\xe0\x9f\xbf", "\xed\xa0\x80", "\xed\xbf\xbf", "\xf0\x8f\xbf\xbf",
+                                 "\xf4\x90\x80\x80", "\xf7\xbf\xbf\xbf", "\xf8\x88\x80\x80\x80", "\xff", "J\xfcrgen", "\xc3", "\xe2\x82",
+                                 "\xf0\x9f\x98", "\xc3\xc3\xbc", "a\xc3z"};
+    for (size_t i = 0; i < sizeof right / sizeof *right; i++)
+        expect(is_utf8(right[i]), "a word is UTF-8", right[i]);
+    for (size_t i = 0; i < sizeof wrong / sizeof *wrong; i++) {
+        expect(!is_utf8(wrong[i]), "a word isn't UTF-8", wrong[i]);
+        char *argv[] = {"name", "a", wrong[i], NULL};
+        expect(main_of_run(3, argv) == WRONG_ARGUMENTS, "the program doesn't run with it", wrong[i]);
+    }
+}
+
 int main(void)
 {
+    words_are_utf8();
     for (given_count = 0; given_count <= GIVEN; given_count++)
         expect(main_of_run((int)given_count, given) == 7, "its status is returned", "main");
     for (int32_t number = 0; number < 3; number++) {

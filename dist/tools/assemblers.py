@@ -8,9 +8,10 @@ from pathlib import Path
 from avx512 import fault_of
 from coff import difference_in_coff, with_long_jumps
 from instructions import Object, difference
-from levels import ROOT, Part
+from levels import DIST, ROOT, Part
 from proving import Fault, run
 from same_code import KEEP_LABELS, difference as difference_of_pieces
+from systems import text_of
 
 
 @dataclass(frozen=True)
@@ -62,9 +63,21 @@ def difference_of_assemblers(part: Part, work: Path) -> str | None:
     return difference(Object(tools.objdump, first), Object(tools.objdump, second))
 
 
+def refuse_what_is_read_otherwise(part: Part, work: Path) -> None:
+    """Refuses the file of a part of which the preprocessor makes something else than what these tools read."""
+    tools, source = ASSEMBLERS[part.platform], work / "as_read.s"
+    run(ROOT / "tools/install_packages", *tools.packages)
+    source.write_text(text_of(part))
+    for assembler in (tools.gcc, tools.clang):
+        run(*assembler, "-c", part.assembly, "-o", work / "whole.o")
+        run(*assembler, "-c", source, "-o", work / "as_read.o")
+        if (work / "whole.o").read_bytes() != (work / "as_read.o").read_bytes():
+            raise Fault(f"{part.assembly.name} by {assembler[0]} isn't what it is read as")
+
+
 def difference_for_macos(part: Part, clang: str | Path, work: Path, file: Path | None = None) -> str | None:
-    """The first difference of what a clang makes of a part's file for macOS, or of another one, and of that for Linux, or None."""
+    """The first difference of what a clang makes of a part's file for Linux, and of it, or of another file, for macOS, or None."""
     linux, macos = work / "for_linux.o", work / "for_macos.o"
-    run(clang, f"--target={part.processor}-linux-gnu", KEEP_LABELS, "-c", part.assembly_for_linux, "-o", linux)
-    run(clang, f"--target={MACOS_TARGETS[part.processor]}", "-c", file or part.assembly, "-o", macos)
+    run(clang, f"--target={part.processor}-linux-gnu", KEEP_LABELS, "-c", part.assembly, "-o", linux)
+    run(clang, f"--target={MACOS_TARGETS[part.processor]}", f"-I{DIST}", "-c", file or part.assembly, "-o", macos)
     return difference_of_pieces(linux, macos)

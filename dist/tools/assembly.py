@@ -17,20 +17,11 @@ from levels import Level, Part, Program, parts, version
 from modules import kept_apart
 from prefetches import with_prefetches
 from proving import Fault, run, tool
+from systems import NOTES, file_of
 
 HEAD = """\
 /* Yurewha {version} for {what}, as the toolchain compiles it. Made by dist/make, not by hand.
    The sum of its sources: {sources} */
-"""
-#: A section that says two things of code for x86-64: that indirect calls and jumps arrive at `endbr64` alone (1, IBT), and that
-#: functions return to where they were called from (2, SHSTK), as a shadow stack requires. The linker keeps what all objects say.
-PROTECTION_NOTE = """\
-	.section	.note.gnu.property,"a",@note
-	.p2align	3, 0x0
-	.long	4, 16, 5
-	.asciz	"GNU"
-	.long	0xc0000002, 4, 3
-	.p2align	3, 0x0
 """
 #: Where a program begins.
 ENTRY = "yurewha_program"
@@ -45,6 +36,9 @@ OWN_NAMES = {
 WORD = re.compile(r'(?m)^\t\.asci.*|"[^"\n]*"|(?<![\w.$])[A-Za-z_][\w.$]*')
 #: What only names the compiler and its input.
 NEEDLESS = re.compile(r"(?m)^\t\.(?:file|ident)\t.*\n")
+#: What says how long a function or some data is, whose label is the last one before it, and the label of the end of a function.
+SIZE = re.compile(r'(?m)^(\t\.size\t("[^"\n]*"|[\w.$]+), ).*$')
+FUNCTION_END = re.compile(r"(?m)^\.Lfunc_end\d+:\n")
 INDIRECT_JUMP = re.compile(r"(?m)^\tjmpq\t\*")
 #: An instruction that sets the stack pointer, but for those that make a frame or leave it; and a return to an address that was pushed.
 OTHER_FRAME = re.compile(
@@ -140,11 +134,11 @@ def whole(part: Level | Program) -> str:
 
 def assembly(part: Level | Program, sources: str) -> str:
     """The file of a part."""
-    return finished(part, whole(part), sources)
+    return file_of(part, finished(part, whole(part), sources))
 
 
 def finished(part: Level | Program, text: str, sources: str) -> str:
-    """The file of a part, of the assembly that clang made."""
+    """The assembly of a part for Linux or Windows, of that which clang made."""
     text = renamed(text, {**OWN_NAMES, **windows.OWN_NAMES} if part.is_for_windows else OWN_NAMES)
     exports = re.findall(r"(?m)^\t\.globl\t(.*)$", text)
     if not exports or not all(re.fullmatch(r"yurewha_\w+", name) for name in exports):
@@ -154,11 +148,13 @@ def finished(part: Level | Program, text: str, sources: str) -> str:
     if part.is_for_windows:
         text = windows.in_coff(in_file(part, text)) + (windows.PROBE_TEXT if part.is_whole else "")
     elif part.has_kernels:
-        text = PROTECTION_NOTE + in_file(part, with_branch_targets(text, [*exports, *KERNELS]))
+        text = NOTES[part.processor] + in_file(part, with_branch_targets(text, [*exports, *KERNELS]))
     else:
         if instruction := OF_SYSTEM.search(text):
             raise Fault(f"register x18, which is the system's on Android and macOS, is used: {instruction[0].strip()}")
         text = marks.with_marks(text, exports)
+    if not part.is_for_windows:
+        text = SIZE.sub(r"\1.-\2", FUNCTION_END.sub("", text))
     return HEAD.format(version=version(), what=what_is(part), sources=sources) + text
 
 
@@ -180,7 +176,7 @@ def with_branch_targets(text: str, targets: Iterable[str]) -> str:
     """Assembly for x86-64 with `endbr64` at each export and kernel, for processors that let indirect calls arrive nowhere else.
 
     No function's address is taken, so the other indirect jumps go to tables of the assembly's own, and say so by `notrack`. Assembly of
-    which PROTECTION_NOTE would be false is refused.
+    which the note would be false is refused.
     """
     if re.search(r"(?m)^\tcallq\t\*", text):
         raise Fault("functions are called by their addresses")
@@ -192,11 +188,11 @@ def with_branch_targets(text: str, targets: Iterable[str]) -> str:
 
 
 def instructions_alone(part: Level | Program, text: str) -> str:
-    """A part's file without what dist/make adds to the proved instructions, so that each has the address that it has there.
+    """A part's assembly without what dist/make adds to the proved instructions, so that each has the address that it has there.
 
     It has the toolchain's names. Instead of stubs, a program has kernels without instructions.
     """
-    text = text.replace(PROTECTION_NOTE, "").replace(marks.NOTE, "")
+    text = text.replace(NOTES[part.processor], "")
     text = renamed(text, {own: name for name, own in OWN_NAMES.items()})
     if part.has_kernels:
         text = cut.without_stubs(text)

@@ -49,7 +49,7 @@ TABLE = """\
 	.hidden	{table}
 	.type	{table},@object
 {table}:
-{entries}	.size	{table}, {size}
+{entries}	.size	{table}, .-{table}
 
 """
 EMPTY = """\
@@ -122,7 +122,7 @@ def stubs() -> list[str]:
 def table(level: Level) -> str:
     """Where the level's kernels are."""
     entries = "".join(f'\t.quad\t"{kernel}"\n' for kernel in KERNELS)
-    text = TABLE.format(table=table_of(level), entries=entries, size=8 * len(KERNELS))
+    text = TABLE.format(table=table_of(level), entries=entries)
     return in_coff(text) if level.is_for_windows else text
 
 

@@ -1,5 +1,5 @@
-"""The files of assembly: of the library, for each level of processors, and of the programs, for Linux, Windows and macOS; and the sources
-that they are made of."""
+"""The files of assembly: of the library, for each level of processors, and of the programs, for Linux and macOS, and for Windows; and the
+sources that they are made of."""
 
 from __future__ import annotations
 
@@ -20,8 +20,8 @@ WASM = ROOT / "bindings/wasm/yurewha/yurewha.wasm"
 TRANSLATED = "x86-64-v4"
 #: What the names of levels for Windows begin with. They have the modules that are proved for Linux.
 WINDOWS = "windows-"
-#: What the names of levels for macOS begin with. Their files are those for Linux in another form.
-MACOS = "macos-"
+#: What the files for Linux and macOS say in one way for each system.
+HEADER = DIST / "assembly.h"
 #: The crate of the library, and those of the programs.
 LIBRARY = "yurewha_c"
 #: A line of comments in a source.
@@ -45,7 +45,12 @@ class Part:
     @property
     def assembly(self) -> Path:
         """The file that dist/make writes."""
-        return DIST / f"{self.name}.s"
+        return DIST / f"{self.name}.{self.ending}"
+
+    @property
+    def ending(self) -> str:
+        """The ending of its file. What is for Linux and macOS, the preprocessor of C reads first."""
+        return "s" if self.is_for_windows else "S"
 
     @property
     def folder(self) -> Path:
@@ -60,22 +65,12 @@ class Part:
     @property
     def name_for_linux(self) -> str:
         """The name of what has the same module for Linux."""
-        return self.name.replace(WINDOWS, "").replace(MACOS, "")
-
-    @property
-    def is_for_macos(self) -> bool:
-        """Whether it is for macOS. Then its file is made of that for Linux."""
-        return MACOS in self.name
-
-    @property
-    def assembly_for_linux(self) -> Path:
-        """The file that has the same module for Linux."""
-        return self.assembly.with_name(f"{self.name_for_linux}.s")
+        return self.name.replace(WINDOWS, "")
 
     @property
     def platform(self) -> str:
-        """The processor, after the system if that isn't Linux."""
-        return f"{WINDOWS if self.is_for_windows else MACOS if self.is_for_macos else ''}{self.processor}"
+        """The processor, after the system if that is Windows."""
+        return f"{WINDOWS if self.is_for_windows else ''}{self.processor}"
 
     @property
     def proved(self) -> Path:
@@ -112,7 +107,7 @@ class Program(Part):
     @property
     def assembly(self) -> Path:
         """The file that dist/make writes."""
-        return DIST / "programs" / f"{self.name}.s"
+        return DIST / "programs" / f"{self.name}.{self.ending}"
 
     @property
     def is_whole(self) -> bool:
@@ -121,7 +116,7 @@ class Program(Part):
 
 
 def levels() -> list[Level]:
-    """The levels of targets.txt, in its order, for Linux."""
+    """The levels of targets.txt, in its order, for Linux and macOS."""
     lines = [line.split() for line in (DIST / "targets.txt").read_text().splitlines() if not line.startswith("#")]
     processors = [processor for _, processor, *_ in lines]
     return [
@@ -145,12 +140,12 @@ def programs_over(libraries: list[Level]) -> list[Program]:
 
 
 def programs() -> list[Program]:
-    """The programs, for each processor, for Linux."""
+    """The programs, for each processor, for Linux and macOS."""
     return programs_over(levels())
 
 
 def parts_for_linux() -> list[Level | Program]:
-    """Whatever has a file of assembly for Linux. Each has a module of its own."""
+    """Whatever has a file of assembly for Linux and macOS. Each has a module of its own."""
     return [*levels(), *programs()]
 
 
@@ -159,14 +154,8 @@ def parts_for_windows() -> list[Level | Program]:
     return [*levels_for_windows(), *programs_over(levels_for_windows())]
 
 
-def parts_for_macos() -> list[Level | Program]:
-    """Whatever has a file of assembly for macOS."""
-    found = [replace(level, name=MACOS + level.name) for level in levels()]
-    return [*found, *programs_over(found)]
-
-
 def parts() -> list[Level | Program]:
-    """Whatever has a file of assembly that is made of a module, for Linux first."""
+    """Whatever has a file of assembly, for Linux and macOS first."""
     return [*parts_for_linux(), *parts_for_windows()]
 
 
@@ -209,12 +198,8 @@ def sources_sum(top: str) -> str:
     return total.hexdigest()
 
 
-def made_files() -> list[Path]:
-    """The files that dist/make writes, but for sums.txt."""
-    return [*(part.assembly for part in (*parts(), *parts_for_macos())), WASM]
-
-
 def sums() -> str:
-    """What sums.txt should say: the sums of the sources, and that of each file that was made of them."""
+    """What sums.txt should say: the sums of the sources, and that of each file that was made of them, and of what these files include."""
     of_sources = [f"{sources_sum(name)}  sources of {name}\n" for name in (LIBRARY, *PROGRAMS)]
-    return "".join([*of_sources, *(f"{hashlib.sha256(path.read_bytes()).hexdigest()}  {path.name}\n" for path in made_files())])
+    files = [HEADER, *(part.assembly for part in parts()), WASM]
+    return "".join([*of_sources, *(f"{hashlib.sha256(path.read_bytes()).hexdigest()}  {path.name}\n" for path in files)])

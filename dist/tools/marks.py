@@ -11,19 +11,13 @@ import re
 
 from frames import CHECK, SIGN, Function
 from proving import Fault
+from systems import NOTES
 
 #: The instructions `bti c` and `bti j`, where calls and jumps may arrive, as old assemblers know them, too.
 CALLED, JUMPED_TO = "hint\t#34", "hint\t#36"
 
-#: A section that says what the code is marked for: BTI (1) and PAC (2). The linker keeps what all objects say.
-NOTE = """\
-	.section	.note.gnu.property,"a",@note
-	.p2align	3, 0x0
-	.long	4, 16, 5
-	.asciz	"GNU"
-	.long	0xc0000000, 4, 3
-	.p2align	3, 0x0
-"""
+#: A section that says what the code is marked for.
+NOTE = NOTES["aarch64"]
 #: A function: its name, and the lines from the one after its label up to the label of its end.
 FUNCTION = re.compile(r"(?m)^\t\.type\t(.*),@function\n\1:\n((?:.*\n)*?)(?=\.Lfunc_end)")
 #: The line after which a function's table ends.

@@ -1,8 +1,8 @@
-"""Compares the object that an assembler makes of a file for Linux (ELF) with that of the file for macOS (Mach-O), piece by piece.
+"""Compares the object that an assembler makes of a file for Linux (ELF) with that for macOS (Mach-O), piece by piece.
 
 A piece is a function or what stands after a label of data. Two are the same if they have the same bytes, are as aligned, and if what the
-linker fills in is in the same places and leads to the same place of the same piece, or to the same name of elsewhere. The file for Linux has
-to be assembled so that labels of data stay (KEEP_LABELS); Mach-O keeps them anyway.
+linker fills in is in the same places and leads to the same place of the same piece, or to the same name of elsewhere. For Linux the file
+has to be assembled so that labels of data stay (KEEP_LABELS); Mach-O keeps them anyway.
 """
 
 from __future__ import annotations
@@ -124,6 +124,11 @@ def macho_sections(data: bytes) -> Iterator[tuple[Section, int, int]]:
         at += size
 
 
+def name_for_linux(name: str) -> str:
+    """The name for Linux, without `.L`, of one for macOS. The library's own, with colons, are the same; others begin with `_` or `l`."""
+    return name.removeprefix(".L") if "::" in name else name[1:]
+
+
 def macho_symbols(data: bytes, sections: list[Section]) -> list[Symbol]:
     """The symbols of a Mach-O object, with the names that they have for Linux. Those that begin a piece are in its section, too."""
     at, found = 32, []
@@ -134,9 +139,9 @@ def macho_symbols(data: bytes, sections: list[Section]) -> list[Symbol]:
             for it in range(table, table + 16 * count, 16):
                 name_at, kind, number, _, value = struct.unpack_from("<IBBHQ", data, it)
                 name, section = text_at(data, texts + name_at), sections[number - 1] if kind & 0x0E == 0x0E else None
-                found.append(Symbol(name[1:], section, value - (section.start if section else 0)))
+                found.append(Symbol(name_for_linux(name), section, value - (section.start if section else 0)))
                 if section and not name.startswith("ltmp"):
-                    section.pieces.append((found[-1].offset, name[1:], 0))
+                    section.pieces.append((found[-1].offset, found[-1].name, 0))
         at += size
     return found
 

@@ -62,9 +62,10 @@ int main(int count, char **words)
         print_hash("xorb ", &root);
         print_hash("\nfile ", &hash);
         printf("\n");
-    } else {
-        fprintf(stderr, "chunks: the file can't be read, or memory ran out\n");
     }
+    done = fflush(stdout) == 0 && !ferror(stdout) && done;
+    if (!done)
+        fprintf(stderr, "chunks: the file can't be read, the output can't be written, or memory ran out\n");
     free(list.chunks);
     if (file != NULL)
         fclose(file);

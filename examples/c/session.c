@@ -70,5 +70,9 @@ int main(void)
     done = done && put(&session, 8) == YUREWHA_DONE;
     done = done && finish(&session) == YUREWHA_DONE;
     yurewha_session_free(&session);
+    if (fflush(stdout) != 0 || ferror(stdout)) {
+        fprintf(stderr, "session: the output can't be written\n");
+        done = false;
+    }
     return done ? EXIT_SUCCESS : EXIT_FAILURE;
 }

@@ -12,7 +12,6 @@ from __future__ import annotations
 import sys
 from http.client import IncompleteRead
 from pathlib import Path
-from urllib.error import URLError
 from urllib.request import Request, urlopen
 
 ROOT = Path(__file__).resolve().parents[2]
@@ -70,10 +69,11 @@ def main(url: str, file_hash: str, start: str, stop: str) -> int:
     remote = Remote(url)
     try:
         part, size = read(remote, Hash.from_hex(file_hash), int(start), int(stop))
-    except (YurewhaError, URLError) as error:
+        sys.stdout.buffer.write(part)
+        sys.stdout.buffer.flush()
+    except (YurewhaError, OSError) as error:  # an error of a server is an OSError, too
         print(f"refused: {error}", file=sys.stderr)
         return 1
-    sys.stdout.buffer.write(part)
     fetched = f"{remote.data_bytes:,} bytes and {remote.proof_bytes:,} of proofs were fetched"
     if remote.cut_answers:
         fetched += f", and answers were cut off: {remote.cut_answers}"

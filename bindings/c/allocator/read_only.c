@@ -11,7 +11,7 @@
 #include <unistd.h>
 #include <yurewha.h>
 
-enum { CHUNKS = 300, FIRST = 50, END = 110, THREADS = 2, TURNS = 50, ROOM = 1 << 26, LEVELS = 64, TEXT = 1 << 17, REFUSED = 42 };
+enum { CHUNKS = 300, FIRST = 50, END = 110, THREADS = 2, TURNS = 50, ROOM = 1 << 26, LEVELS = 64, TEXT = 1 << 17, FILE_SIZE = 300000, REFUSED = 42 };
 
 #define EXPECT(holds) \
     do { \
@@ -75,8 +75,11 @@ static struct {
     yurewha_part part;
     yurewha_reader reader;
     yurewha_hash_index index;
+    yurewha_file_hasher hasher;
 } made;
 static uint8_t data[CHUNKS];
+/* The file of the hasher, which has an open chunk. */
+static uint8_t bytes[FILE_SIZE];
 static const yurewha_bytes salt = {{7}};
 /* The file hash, and the proof of the chunks from FIRST up to END. */
 static yurewha_hash file;
@@ -88,8 +91,8 @@ static yurewha_hash hashes[CHUNKS];
 
 /* All that is read of them. Each answer is copied here, so that two of them are compared by their bytes. */
 struct answers {
-    yurewha_hash hashes[5];
-    uint64_t numbers[29];
+    yurewha_hash hashes[8];
+    uint64_t numbers[30];
     yurewha_hash known[CHUNKS], indexed[CHUNKS];
     uint64_t places[CHUNKS];
     yurewha_chunk nodes[CHUNKS + 1024];
@@ -108,6 +111,7 @@ struct answers {
 #define PART COPY(yurewha_part, made.part)
 #define READER COPY(yurewha_reader, made.reader)
 #define INDEX COPY(yurewha_hash_index, made.index)
+#define HASHER COPY(yurewha_file_hasher, made.hasher)
 
 static void read_subtree(struct answers *to)
 {
@@ -205,6 +209,14 @@ static void read_range(struct answers *to)
     to->numbers[19] = start;
 }
 
+static void read_hasher(struct answers *to)
+{
+    EXPECT(yurewha_file_hasher_size(HASHER, &to->numbers[29]) == YUREWHA_DONE && to->numbers[29] == FILE_SIZE);
+    EXPECT(yurewha_file_hasher_root(HASHER, &to->hashes[5]) == YUREWHA_DONE);
+    EXPECT(yurewha_file_hasher_finish(HASHER, &to->hashes[6]) == YUREWHA_DONE);
+    EXPECT(yurewha_file_hasher_finish_with_salt(HASHER, &salt, &to->hashes[7]) == YUREWHA_DONE);
+}
+
 static void open_part(yurewha_part *part)
 {
     uint64_t begin = 0, end = 0;
@@ -258,6 +270,7 @@ static void *read_all(void *given)
         read_index(to);
         read_range(to);
         read_reader(to);
+        read_hasher(to);
     }
     return NULL;
 }
@@ -292,6 +305,10 @@ static void make_all(void)
            == YUREWHA_DONE);
     EXPECT(yurewha_range_proof_open(levels, level_count, nodes, node_count, &file, &salt, &made.range) == YUREWHA_DONE);
     make_reader(&made.part, &made.reader);
+    for (size_t i = 0; i < FILE_SIZE; i++)
+        bytes[i] = (uint8_t)(i % 251);
+    EXPECT(yurewha_file_hasher_new(&made.hasher) == YUREWHA_DONE);
+    EXPECT(yurewha_file_hasher_update(&made.hasher, bytes, FILE_SIZE) == YUREWHA_DONE);
 }
 
 /* Ends a program that wrote to a closed page, without a word of the shell or of qemu. */
@@ -344,6 +361,7 @@ int main(void)
     yurewha_opened_range_free(&made.range);
     yurewha_part_free(&made.part);
     yurewha_reader_free(&made.reader);
+    yurewha_file_hasher_free(&made.hasher);
     munmap(pages, ROOM);
     free(answers);
     printf("%d threads read the same objects, which lie in %zu bytes that nobody may write to\n", THREADS, used);

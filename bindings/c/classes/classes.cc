@@ -6,8 +6,11 @@
 #include <cstdio>
 #include <cstdlib>
 #include <cstring>
+#include <iomanip>
 #include <set>
+#include <sstream>
 #include <sys/mman.h>
+#include <unordered_set>
 
 using namespace std::literals;
 namespace yu = yurewha;
@@ -39,14 +42,14 @@ template <class Function> static yurewha_status thrown(const Function &function)
 // The memory of the library: how many blocks it has, and whether each request is refused.
 static long live;
 static bool refuses;
-static void *allocate(std::size_t size)
+static void *allocate(std::size_t size) noexcept
 {
     void *block = refuses ? nullptr : std::malloc(size);
     live += block != nullptr;
     return block;
 }
-static void *reallocate(void *block, std::size_t size) { return refuses ? nullptr : std::realloc(block, size); }
-static void release(void *block)
+static void *reallocate(void *block, std::size_t size) noexcept { return refuses ? nullptr : std::realloc(block, size); }
+static void release(void *block) noexcept
 {
     live--;
     std::free(block);
@@ -109,6 +112,10 @@ static void values()
     MUST(hashes == std::vector<yu::hash>{low, high, high} && std::set<yu::hash>(hashes.begin(), hashes.end()).size() == 2);
     MUST(std::vector<yu::chunk>{chunk} == std::vector<yu::chunk>{chunk} && std::optional(low) == std::optional(low));
     MUST(std::pair(low, 1) < std::pair(high, 1));
+    MUST(std::unordered_set<yu::hash>(hashes.begin(), hashes.end()).size() == 2 && std::hash<yu::hash>()(low) == 1);
+    std::ostringstream text;
+    text << low << ' ' << std::setw(66) << std::setfill('.') << high;
+    MUST(text.str() == yu::hex(low) + " .." + yu::hex(high));
 }
 
 static void texts()
@@ -364,10 +371,10 @@ static void range_proofs()
     MUST(part.checked().chunks == 1 && part.checked().place == place.first + 27);
     const auto found = part.check(sent);
     MUST(found.start == 1 && found.count == sent.size() - 2 && part.checked().chunks == 2);
-    yu::part json = yu::part::open_json(proof.to_json(), tree->file_hash(), {}, place.first, place.end, 0);
-    MUST(json.place() == place && json.check(sent, false).start == 0);
-    THROWS(YUREWHA_ARGUMENTS, reader.take(std::move(json)));
-    MUST(json.file_size() == data.size());
+    yu::part whole(proof, tree->file_hash(), {}, place.first, place.end, 0);
+    MUST(whole.place() == place && whole.check(sent, false).start == 0);
+    THROWS(YUREWHA_ARGUMENTS, reader.take(std::move(whole)));
+    MUST(whole.file_size() == data.size());
     MUST(reader.needs(place.first, place.end, 10) == yu::interval<std::uint64_t>{place.first, place.first + 10});
     reader.take(std::move(part));
     THROWS(YUREWHA_EMPTY_HANDLE, part.file_size());
@@ -378,7 +385,7 @@ static void range_proofs()
         const read_only<yu::reader> shared(std::move(reader));
         MUST(shared->size() == data.size() && shared->counted() == 310 && !shared->needs(place.first, place.end, 10));
         reader = yu::reader(tree->file_hash(), {}, 10);
-        const read_only<yu::part> unchecked(std::move(json));
+        const read_only<yu::part> unchecked(std::move(whole));
         MUST(unchecked->file_size() == data.size() && unchecked->checked().chunks == 2 && unchecked->place() == place);
     }
     yu::part kept_part(proof, tree->file_hash(), {}, place.first, place.end, 0);
@@ -396,13 +403,12 @@ static void range_proofs()
         MUST(error.status() == YUREWHA_ELSEWHERE && error.place() == place);
     }
     try {
-        (void)yu::part::open_json(proof.to_json(), tree->file_hash(), {}, place.first + 2, place.end, 1);
+        (void)yu::part(proof, tree->file_hash(), {}, place.first + 2, place.end, 1);
         MUST(false);
     } catch (const yu::misplaced_range &error) {
         MUST(error.status() == YUREWHA_TOO_FAR && error.place() == place);
     }
     THROWS(YUREWHA_MISMATCH, yu::part(proof, tree->root(), {}, place.first, place.end, 0));
-    THROWS(YUREWHA_TEXT, yu::part::open_json("{", tree->root(), {}, place.first, place.end, 0));
 }
 
 // With each request refused, what allocates throws std::bad_alloc, and leaves its object as it was.
@@ -429,6 +435,49 @@ static void refusals()
     THROWS(YUREWHA_MEMORY, yu::opened_range(proof, tree.file_hash()));
     refuses = false;
     MUST(front == before && session.to_json() == text);
+}
+
+// A file whose first chunks have 8193 bytes, since three bytes end the first one after 3 * 2731, and whose last one is short.
+static void files()
+{
+    std::string data(20000, '\0');
+    for (std::size_t i = 0; i < data.size(); i++)
+        data[i] = "\0\x94\x8f"[i % 3];
+    const std::vector<yu::chunk> chunks = {
+        {yu::data_hash(data.substr(0, 8193)), 8193}, {yu::data_hash(data.substr(0, 8193)), 8193}, {yu::data_hash(data.substr(16386)), 3614}};
+    yu::bytes salt{};
+    salt.bytes[0] = 1;
+
+    yu::chunker chunker;
+    MUST(chunker.taken() == 0 && !chunker.next_boundary({}) && chunker.taken() == 0);
+    MUST(!chunker.next_boundary(data.substr(0, 8190)) && !chunker.next_boundary({}) && chunker.taken() == 8190);
+    yu::chunker copy = chunker;
+    static_assert(std::is_trivially_copyable_v<yu::chunker> && sizeof(yu::chunker) == sizeof(yurewha_chunker));
+    // A chunk ends in a piece, and with it.
+    MUST(chunker.next_boundary(data.substr(8190)) == 3 && chunker.taken() == 0 && copy.taken() == 8190);
+    MUST(copy.next_boundary(data.substr(8190, 3)) == 3 && copy.next_boundary(data.substr(8193)) == 8193);
+    MUST(!copy.next_boundary(data.substr(16386)) && copy.taken() == 3614);
+    copy = yu::chunker();
+    MUST(copy.taken() == 0);
+
+    yu::file_hasher hasher;
+    MUST(hasher.size() == 0 && hasher.root() == yu::hash{} && hasher.finish() == yu::hash{} && hasher.finish_with_salt(salt) == yu::hash{});
+    MUST(&hasher.update(data.substr(0, 7)) == &hasher && hasher.update({}).update(data.substr(7)).size() == 20000);
+    refuses = true;
+    THROWS(YUREWHA_MEMORY, hasher.root());
+    THROWS(YUREWHA_MEMORY, hasher.update(std::string(1 << 20, 'a')));
+    THROWS(YUREWHA_MEMORY, yu::file_hasher());
+    refuses = false;
+    yu::file_hasher moved = std::move(hasher);
+    THROWS(YUREWHA_EMPTY_HANDLE, hasher.size());
+    THROWS(YUREWHA_EMPTY_HANDLE, hasher.update(data));
+    THROWS(YUREWHA_EMPTY_HANDLE, hasher.finish());
+    hasher = yu::file_hasher();
+    MUST(hasher.size() == 0 && moved.size() == 20000);
+    static_assert(!std::is_copy_constructible_v<yu::file_hasher> && !std::is_copy_assignable_v<yu::file_hasher>);
+    const read_only<yu::file_hasher> kept(std::move(moved));
+    MUST(kept->root() == yu::xorb_hash(chunks) && kept->finish() == yu::file_hash(chunks) && kept->size() == 20000);
+    MUST(kept->finish_with_salt(salt) == yu::file_hash_with_salt(chunks, salt) && kept->finish_with_salt({}) == kept->finish());
 }
 
 static void hash_indexes()
@@ -465,6 +514,7 @@ int main()
     sessions();
     range_proofs();
     hash_indexes();
+    files();
     refusals();
     MUST(live == 0);
     std::printf("classes: %lu checks, %lu failed\n", checked, failed);

@@ -119,6 +119,59 @@ static uint64_t call_hasher_finalize(const struct argument *a)
     return 0;
 }
 
+static uint64_t call_chunker_begin(const struct argument *a)
+{
+    yurewha_chunker_begin((yurewha_chunker *)a[0].data);
+    return 0;
+}
+
+static uint64_t call_chunker_next_boundary(const struct argument *a)
+{
+    return yurewha_chunker_next_boundary((yurewha_chunker *)a[0].data, (const char *)a[1].data, a[1].count);
+}
+
+static uint64_t call_chunker_taken(const struct argument *a)
+{
+    return yurewha_chunker_taken((const yurewha_chunker *)a[0].data);
+}
+
+static uint64_t call_file_hasher_new(const struct argument *a)
+{
+    return yurewha_file_hasher_new((yurewha_file_hasher *)a[0].data);
+}
+
+static uint64_t call_file_hasher_update(const struct argument *a)
+{
+    return yurewha_file_hasher_update((yurewha_file_hasher *)a[0].data, (const char *)a[1].data, a[1].count);
+}
+
+static uint64_t call_file_hasher_size(const struct argument *a)
+{
+    return yurewha_file_hasher_size((yurewha_file_hasher *)a[0].data, (uint64_t *)a[1].data);
+}
+
+static uint64_t call_file_hasher_root(const struct argument *a)
+{
+    return yurewha_file_hasher_root((yurewha_file_hasher *)a[0].data, (yurewha_hash *)a[1].data);
+}
+
+static uint64_t call_file_hasher_finish(const struct argument *a)
+{
+    return yurewha_file_hasher_finish((yurewha_file_hasher *)a[0].data, (yurewha_hash *)a[1].data);
+}
+
+static uint64_t call_file_hasher_finish_with_salt(const struct argument *a)
+{
+    return yurewha_file_hasher_finish_with_salt((yurewha_file_hasher *)a[0].data, (const yurewha_bytes *)a[1].data,
+        (yurewha_hash *)a[2].data);
+}
+
+static uint64_t call_file_hasher_free(const struct argument *a)
+{
+    yurewha_file_hasher_free((yurewha_file_hasher *)a[0].data);
+    return 0;
+}
+
 static uint64_t call_xorb_hash(const struct argument *a)
 {
     return yurewha_xorb_hash((const yurewha_chunk *)a[0].data, a[0].count, (yurewha_hash *)a[1].data);
@@ -545,13 +598,6 @@ static uint64_t call_part_open(const struct argument *a)
         (uint64_t)a[6].number, (uint64_t *)a[7].data, (uint64_t *)a[8].data, (yurewha_part *)a[9].data);
 }
 
-static uint64_t call_part_open_json(const struct argument *a)
-{
-    return yurewha_part_open_json((const char *)a[0].data, a[0].count, (const yurewha_hash *)a[1].data,
-        (const yurewha_bytes *)a[2].data, (uint64_t)a[3].number, (uint64_t)a[4].number, (uint64_t)a[5].number,
-        (uint64_t *)a[6].data, (uint64_t *)a[7].data, (yurewha_part *)a[8].data);
-}
-
 static uint64_t call_part_check(const struct argument *a)
 {
     return yurewha_part_check((yurewha_part *)a[0].data, (const char *)a[1].data, a[1].count, a[2].number != 0,
@@ -636,6 +682,18 @@ const struct call calls[] = {
     {"hasher_count", call_hasher_count, COUNT, ASKS_NONE, false, 1, {{READ, HASHER}}},
     {"hasher_update", call_hasher_update, STATUS, ASKS_NONE, false, 2, {{CHANGED, HASHER}, {LIST, BYTE}}},
     {"hasher_finalize", call_hasher_finalize, NOTHING, ASKS_NONE, false, 2, {{READ, HASHER}, {OUT, HASH}}},
+    {"chunker_begin", call_chunker_begin, NOTHING, ASKS_NONE, false, 1, {{MADE, CHUNKER}}},
+    {"chunker_next_boundary", call_chunker_next_boundary, COUNT, ASKS_NONE, false, 2, {{CHANGED, CHUNKER},
+        {LIST, BYTE}}},
+    {"chunker_taken", call_chunker_taken, COUNT, ASKS_NONE, false, 1, {{READ, CHUNKER}}},
+    {"file_hasher_new", call_file_hasher_new, STATUS, REFUSES, false, 1, {{MADE, FILE_HASHER}}},
+    {"file_hasher_update", call_file_hasher_update, STATUS, REFUSES, false, 2, {{CHANGED, FILE_HASHER}, {LIST, BYTE}}},
+    {"file_hasher_size", call_file_hasher_size, STATUS, ASKS_NONE, false, 2, {{READ, FILE_HASHER}, {OUT, NUMBER}}},
+    {"file_hasher_root", call_file_hasher_root, STATUS, REFUSES, false, 2, {{READ, FILE_HASHER}, {OUT, HASH}}},
+    {"file_hasher_finish", call_file_hasher_finish, STATUS, REFUSES, false, 2, {{READ, FILE_HASHER}, {OUT, HASH}}},
+    {"file_hasher_finish_with_salt", call_file_hasher_finish_with_salt, STATUS, REFUSES, false, 3, {{READ, FILE_HASHER},
+        {GIVEN, KEY}, {OUT, HASH}}},
+    {"file_hasher_free", call_file_hasher_free, NOTHING, ASKS_NONE, false, 1, {{FREED, FILE_HASHER}}},
     {"xorb_hash", call_xorb_hash, STATUS, REFUSES, false, 2, {{LIST, CHUNK}, {OUT, HASH}}},
     {"file_hash", call_file_hash, STATUS, REFUSES, false, 2, {{LIST, CHUNK}, {OUT, HASH}}},
     {"file_hash_with_salt", call_file_hash_with_salt, STATUS, REFUSES, false, 3, {{LIST, CHUNK}, {GIVEN, KEY},
@@ -756,8 +814,6 @@ const struct call calls[] = {
     {"reader_take", call_reader_take, STATUS, SPARES, false, 2, {{CHANGED, READER}, {EMPTIED, PART}}},
     {"part_open", call_part_open, STATUS, REFUSES, false, 10, {{LIST, LEVEL}, {LIST, CHUNK}, {GIVEN, HASH},
         {GIVEN, KEY}, {GIVEN, NUMBER}, {GIVEN, NUMBER}, {GIVEN, NUMBER}, {OUT, NUMBER}, {OUT, NUMBER}, {MADE, PART}}},
-    {"part_open_json", call_part_open_json, STATUS, REFUSES, false, 9, {{LIST, BYTE}, {GIVEN, HASH}, {GIVEN, KEY},
-        {GIVEN, NUMBER}, {GIVEN, NUMBER}, {GIVEN, NUMBER}, {OUT, NUMBER}, {OUT, NUMBER}, {MADE, PART}}},
     {"part_check", call_part_check, STATUS, SPARES, true, 5, {{CHANGED, PART}, {LIST, BYTE}, {GIVEN, TRUTH},
         {OUT, NUMBER}, {OUT, NUMBER}}},
     {"part_file_size", call_part_file_size, STATUS, ASKS_NONE, false, 2, {{READ, PART}, {OUT, NUMBER}}},

@@ -16,7 +16,7 @@
 enum role {
     GIVEN,   /* a value */
     LIST,    /* an array */
-    READ,    /* a handle or a hasher that stays as it is */
+    READ,    /* a handle, a hasher or a chunker that stays as it is */
     CHANGED, /* one that the call changes */
     MADE,    /* one that it makes */
     FREED,   /* a handle that it frees */
@@ -29,7 +29,25 @@ enum role {
 };
 
 /* Of what type it is, or its elements are. From SUBTREE on, these are handles. */
-enum type { BYTE, TRUTH, NUMBER, HASH, KEY, CHUNK, LEVEL, HASHER, SUBTREE, SESSION, HASH_TREE, OPENED_RANGE, PART, READER, HASH_INDEX };
+enum type {
+    BYTE,
+    TRUTH,
+    NUMBER,
+    HASH,
+    KEY,
+    CHUNK,
+    LEVEL,
+    HASHER,
+    CHUNKER,
+    SUBTREE,
+    SESSION,
+    HASH_TREE,
+    OPENED_RANGE,
+    PART,
+    READER,
+    HASH_INDEX,
+    FILE_HASHER
+};
 
 /* What a call returns. */
 enum answer { NOTHING, STATUS, SIGNED, COUNT };
@@ -119,6 +137,7 @@ struct object {
     enum type type;
     struct handle handle;
     yurewha_hasher hasher;
+    yurewha_chunker chunker;
 };
 
 /* The object of a type and of a name, whose length is given; an empty one, if no call made it. */
@@ -135,7 +154,7 @@ struct argument joined(enum type type, char *word);
 /* Frees all handles, and forgets all kept answers. */
 void drop_objects(void);
 
-/* ---- State: all that can be told of what a handle owns, or of a hasher, is added to a message. It may take memory */
+/* ---- State: all that can be told of what a handle owns, or of a hasher or a chunker, is added to a message. It may take memory */
 void tell(yurewha_hasher *message, enum type type, void *object);
 
 /* End the program, since a line is wrong, or since a call failed without which nothing else can be told. */

@@ -29,16 +29,16 @@ static bool is_refused(void)
     return refused;
 }
 
-static void *allocate(size_t size)
+static void *allocate(size_t size) YUREWHA_NOEXCEPT
 {
     void *found = is_refused() ? NULL : malloc(size);
     state.live += found != NULL;
     return found;
 }
 
-static void *reallocate(void *old, size_t size) { return is_refused() ? NULL : realloc(old, size); }
+static void *reallocate(void *old, size_t size) YUREWHA_NOEXCEPT { return is_refused() ? NULL : realloc(old, size); }
 
-static void release(void *old)
+static void release(void *old) YUREWHA_NOEXCEPT
 {
     state.live--;
     free(old);

@@ -1,4 +1,4 @@
-/* The handles and hashers of a test, and the answers that it keeps, by their names. */
+/* The handles, hashers and chunkers of a test, and the answers that it keeps, by their names. */
 #include "driver.h"
 
 static struct object objects[MOST_OBJECTS];
@@ -28,7 +28,9 @@ struct object *object_of(enum type type, const char *name, size_t length)
 
 void *address(struct object *it)
 {
-    return it->type == HASHER ? (void *)&it->hasher : (void *)&it->handle;
+    if (it->type == HASHER)
+        return &it->hasher;
+    return it->type == CHUNKER ? (void *)&it->chunker : (void *)&it->handle;
 }
 
 void free_handle(enum type type, struct handle *handle)

@@ -130,6 +130,17 @@ static void tell_hash_index(yurewha_hasher *message, yurewha_hash_index *index)
     free(found);
 }
 
+/* What tells most of a hasher: how much it took, and the root of that. */
+static void tell_file_hasher(yurewha_hasher *message, yurewha_file_hasher *hasher)
+{
+    yurewha_hash root;
+    uint64_t size = 0;
+    need(yurewha_file_hasher_size(hasher, &size), "size");
+    need(yurewha_file_hasher_root(hasher, &root), "root");
+    add(message, &size, sizeof size);
+    add(message, &root, sizeof root);
+}
+
 void tell(yurewha_hasher *message, enum type type, void *object)
 {
     const bool is_empty = type >= SUBTREE && ((struct handle *)object)->at == NULL;
@@ -138,6 +149,8 @@ void tell(yurewha_hasher *message, enum type type, void *object)
         return;
     if (type == HASHER)
         add(message, object, sizeof(yurewha_hasher));
+    else if (type == CHUNKER)
+        add(message, object, sizeof(yurewha_chunker));
     else if (type == SUBTREE)
         tell_subtree(message, (yurewha_subtree *)object);
     else if (type == SESSION)
@@ -150,6 +163,8 @@ void tell(yurewha_hasher *message, enum type type, void *object)
         tell_part(message, (yurewha_part *)object);
     else if (type == READER)
         tell_reader(message, (yurewha_reader *)object);
-    else
+    else if (type == HASH_INDEX)
         tell_hash_index(message, (yurewha_hash_index *)object);
+    else
+        tell_file_hasher(message, (yurewha_file_hasher *)object);
 }

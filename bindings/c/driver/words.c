@@ -1,7 +1,8 @@
 /* What a word of a line says.
  *
  *     number, truth   decimal digits; 0 or 1
- *     bytes           hex digits; a text between two '; or %A-B, the bytes A up to B of the message whose byte i is i % 251
+ *     bytes           hex digits; a text between two '; or %A-B, the bytes A up to B of the message whose byte i is i % 251, of hex digits
+ *                     again and again, which stand behind a colon, or, behind `:mixed`, of the numbers of SplitMix64 from the seed 0 on
  *     hash            64 hex digits, or sN, the hash of the seed N
  *     key             64 hex digits of its bytes
  *     level           its number of left nodes, a colon and that of right nodes
@@ -53,6 +54,29 @@ static yurewha_hash hash_of(const char *text)
 
 /* ---- Bytes */
 
+/* The byte at a place of the numbers of SplitMix64, each with its lowest byte first. */
+static unsigned char mixed(uint64_t place)
+{
+    uint64_t number = (place / 8 + 1) * UINT64_C(0x9E3779B97F4A7C15);
+    number = (number ^ number >> 30) * UINT64_C(0xBF58476D1CE4E5B9);
+    number = (number ^ number >> 27) * UINT64_C(0x94D049BB133111EB);
+    return (unsigned char)((number ^ number >> 31) >> place % 8 * 8);
+}
+
+/* The bytes of a message from a place on, by the rule behind its colon, or without one. */
+static void make_message(const char *rule, size_t length, uint64_t from, unsigned char *to, size_t count)
+{
+    unsigned char again[64];
+    const bool is_mixed = length == 6 && memcmp(rule, ":mixed", length) == 0;
+    const size_t period = length / 2;
+    if (length > 2 * sizeof again)
+        stop("too many bytes: ", rule);
+    if (!is_mixed && length != 0)
+        read_hex(rule + 1, again, period);
+    for (size_t i = 0; i < count; i++)
+        to[i] = is_mixed ? mixed(from + i) : length != 0 ? again[(from + i) % period] : (unsigned char)((from + i) % 251);
+}
+
 static struct argument bytes_of(const char *text, size_t digits)
 {
     struct argument made = {0, NULL, digits / 2};
@@ -68,8 +92,8 @@ static struct argument bytes_of(const char *text, size_t digits)
     if (*text == '\'')
         memcpy(made.data, text + 1, made.count);
     else if (*text == '%')
-        for (size_t i = 0; i < made.count; i++)
-            ((unsigned char *)made.data)[i] = (unsigned char)((made.number + i) % 251);
+        make_message(text + strcspn(text, ":,"), digits - (strcspn(text, ":,") < digits ? strcspn(text, ":,") : digits), made.number,
+                     (unsigned char *)made.data, made.count);
     else
         read_hex(text, made.data, made.count);
     return made;

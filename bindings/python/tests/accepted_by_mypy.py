@@ -26,6 +26,18 @@ hashes = y.hash_chunks(b"data", range(3), progress=None)
 with open("data", "rb") as stream:
     cut: y.Chunks = y.Chunks(y.hash_cuts(stream, lambda pieces: map(len, pieces)))
     sizes_of_cuts: List[int] = [size for _, size in y.hash_cuts(stream, [1, 2])]
+    cut = y.Chunks(y.hash_cuts(stream)) + y.Chunks(y.chunks_of(stream)) + y.Chunks(y.chunks_of("data"))
+    root = y.hash_file(stream)
+root = y.hash_file("data", salt=bytes(32), threads=4, progress=print)
+root = y.hash_file(pathlib.Path("data"), salt=None, threads=None, progress=None)
+root = y.hash_file(io.BytesIO(b"abc"), progress=lambda count: count + 1)
+whole_file: y.HashTree = y.HashTree.of_file(b"data", threads=2)
+chunker: y.Chunker = y.Chunker().copy()
+boundary: Optional[int] = chunker.next_boundary(memoryview(b"abc"))
+taken: int = chunker.taken + y.FileHasher().size
+file_hasher: y.FileHasher = y.FileHasher(b"abc")
+file_hasher.update(bytearray(b"abc"), nobody_writes=True)
+root = max(file_hasher.root(), file_hasher.file_hash(), file_hasher.file_hash(salt=bytearray(32)))
 
 # Hashes and hashers.
 names: Dict[y.Hash, str] = {root: "abc", y.Hash(): "none", y.Hash(memoryview(bytes(32))): "zeros"}

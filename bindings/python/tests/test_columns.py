@@ -51,6 +51,58 @@ def test_columns_of_numpy():
     assert not numpy.asarray(y.Hashes(HASHES)).flags.writeable
 
 
+DATA = bytes(range(200)) * 20
+TREE = y.HashTree([(y.data_hash(DATA), len(DATA))])
+#: Calls that take an array, each with the array of NumPy that it gets.
+OF_ARRAYS = {
+    "Hashes": (y.Hashes, lambda np: np.asarray(CHUNKS.hashes)),
+    "Hashes of bytes": (y.Hashes, lambda np: np.frombuffer(RAW, "u1").reshape(60, 32)),
+    "Hashes of objects": (y.Hashes, lambda np: np.array([hash_.bytes for hash_ in HASHES], dtype=object)),
+    "Chunks": (y.Chunks, np_chunks := lambda np: np.asarray(CHUNKS)),
+    "file_hash": (y.file_hash, np_chunks),
+    "Session.put": (lambda given: y.Session().put(0, given), np_chunks),
+    "from_columns of hashes": (lambda given: y.Chunks.from_columns(given, SIZES), lambda np: np.asarray(CHUNKS.hashes)),
+    "from_columns of texts": (lambda given: y.Chunks.from_columns(given, SIZES), lambda np: np.array(CHUNKS.hashes.hex())),
+    "from_columns of sizes": (lambda given: y.Chunks.from_columns(HASHES, given), lambda np: np.array(SIZES, "u8")),
+    "from_columns of objects": (lambda given: y.Chunks.from_columns(HASHES, given), lambda np: np.array(SIZES, dtype=object)),
+    "picks by numbers": (lambda given: CHUNKS[given], lambda np: np.arange(7)),
+    "picks by bools": (lambda given: CHUNKS.hashes[given], lambda np: np.arange(60) > 7),
+    "HashIndex.add_all": (lambda given: y.HashIndex(HASHES, given), lambda np: np.arange(60)),
+    "HashIndex.contains": (y.HashIndex(HASHES[:5]).contains, lambda np: np.asarray(CHUNKS.hashes)),
+    "HashIndex.new": (y.HashIndex(HASHES[:5]).new, lambda np: np.asarray(CHUNKS.hashes)),
+    "Session.contains": (y.Session().contains, lambda np: np.asarray(CHUNKS.hashes)),
+    "Session.keep_hashes": (lambda given: y.Session().keep_hashes(given), lambda np: np.asarray(CHUNKS.hashes)),
+    "data_hashes of offsets": (lambda given: y.data_hashes(DATA, given), lambda np: np.arange(50)),
+    "file_hashes of offsets": (lambda given: y.file_hashes(CHUNKS, given), lambda np: np.arange(50)),
+    "data_hashes": (lambda given: y.data_hashes(given, [0, 7]), np_bytes := lambda np: np.frombuffer(DATA, "u1")),
+    "data_hash": (y.data_hash, np_bytes),
+    "data_hash of few": (y.data_hash, lambda np: np.arange(3, dtype="u1")),
+    "internal_node_hash": (y.internal_node_hash, np_bytes),
+    "Hasher": (lambda given: y.Hasher(given).hash(), np_bytes),
+    "Hasher.update": (lambda given: y.Hasher().update(given), np_bytes),
+    "OpenedRange.check": (lambda given: TREE.proof(0, 1).open_root(TREE.root).check(0, given), np_bytes),
+    "OpenedRange.read": (lambda given: bytes(TREE.proof(0, 1).open_root(TREE.root).read(0, 9, given)), np_bytes),
+    "what fetch returns": (lambda given: y.VerifiedFile(TREE.file_hash(), lambda a, b: given, TREE.proof_of_bytes).read(9), np_bytes),
+    "a salt": (lambda given: y.file_hash(CHUNKS, given), lambda np: np.arange(32, dtype="u1")),
+    "RangeProof.from_bytes": (y.RangeProof.from_bytes, lambda np: np.frombuffer(TREE.proof(0, 1).to_bytes(), "u1")),
+}
+
+
+@pytest.mark.parametrize("name", OF_ARRAYS)
+def test_masked_items_of_arrays_are_refused(name):
+    """Under a mask there may be anything. A masked array without a masked item is taken as any other one is."""
+    numpy = pytest.importorskip("numpy")
+    call, make = OF_ARRAYS[name]
+    array = make(numpy)
+    masked, place = numpy.ma.array(array), len(array) - 1
+    assert call(masked) == call(array)
+    numpy.ma.getmaskarray(masked)
+    masked[place] = numpy.ma.masked
+    for given in (masked, memoryview(masked)) if array.dtype.kind not in "OU" else (masked,):
+        with pytest.raises(y.InvalidArguments, match=f"^item {place} of the array is masked$"):
+            call(given)
+
+
 @pytest.mark.parametrize("kind", ["u1", "i1", "u2", "i2", "u4", "i4", "u8", "i8"])
 def test_sizes_are_read_by_the_width_of_the_column(kind):
     numpy = pytest.importorskip("numpy")

@@ -1,11 +1,13 @@
 """The file system for fsspec: what it says of its files, what it reads, and readers over it."""
 
+import dataclasses
 import io
 import os
 import pickle
 import random
 import subprocess
 import sys
+from pathlib import Path
 
 import pytest
 from test_networks import Dying, all_at_once
@@ -29,7 +31,7 @@ def prove(path, start, stop):
 
 
 def made(hashes=HASHES, fetch=fetch, prove=prove, **options):
-    return filesystem.VerifiedFileSystem(hashes, fetch, prove, skip_instance_cache=True, **options)
+    return filesystem.VerifiedFileSystem(hashes, fetch, prove, **options)
 
 
 @pytest.fixture(autouse=True)
@@ -245,7 +247,6 @@ def test_files_that_are_opened():
 
 
 def test_fsspec_knows_it(tmp_path):
-    fsspec.register_implementation("yurewha", filesystem.VerifiedFileSystem, clobber=True)
     files = fsspec.filesystem("yurewha", hashes=HASHES, fetch=fetch, prove=prove)
     again = pickle.loads(pickle.dumps(files))
     assert again.cat_file("a.bin") == files.cat_file("a.bin") == FILES["a.bin"].data
@@ -262,6 +263,50 @@ def test_fsspec_finds_the_installed_package():
     assert told == "<class 'yurewha.filesystem.VerifiedFileSystem'>\n"
 
 
+@dataclasses.dataclass
+class Client:
+    """A client of which its text shows no token."""
+
+    token: str = dataclasses.field(repr=False)
+
+    def fetch(self, path, start, stop):
+        if self.token == "expired":
+            raise PermissionError("401")
+        return fetch(path, start, stop)
+
+
+def test_a_new_file_system_is_never_an_earlier_one():
+    """fsspec keeps file systems by the text of their arguments, which needn't say everything."""
+    old, new = (filesystem.VerifiedFileSystem(HASHES, Client(token).fetch, prove) for token in ("expired", "fresh"))
+    assert old is not new and old != new and len({old, new}) == 2 and old == old and hash(old) == hash(old)
+    assert new.cat_file("a.bin") == FILES["a.bin"].data
+    for again in (lambda: old.cat_file("a.bin"), lambda: pickle.loads(pickle.dumps(old)).cat_file("a.bin")):
+        with pytest.raises(PermissionError):
+            again()
+    tokenize = pytest.importorskip("dask.base").tokenize
+    assert tokenize(old) != tokenize(new) and tokenize(old) == tokenize(old)
+    for token in ("fresh", "expired"):
+        made = fsspec.filesystem("yurewha", hashes=HASHES, fetch=Client(token).fetch, prove=prove)
+        assert made._fetch.__self__.token == token
+
+
+@pytest.mark.parametrize("statement", [
+    "import fsspec, yurewha.filesystem", "import yurewha.filesystem, fsspec", "import fsspec, yurewha",
+    "import yurewha, fsspec, yurewha.filesystem"])
+def test_fsspec_knows_the_protocol_of_a_folder(statement):
+    """The package isn't installed: it is found by PYTHONPATH."""
+    told = subprocess.run(
+        [sys.executable, "-c", f"{statement}; found = fsspec.get_filesystem_class('yurewha'); print(found, found.protocol)"],
+        env={**os.environ, "PYTHONPATH": str(Path(y.__file__).parents[1])}, capture_output=True, text=True, check=True).stdout
+    assert told == "<class 'yurewha.filesystem.VerifiedFileSystem'> yurewha\n"
+
+
+def test_fsspec_is_not_imported_for_its_sake():
+    told = subprocess.run([sys.executable, "-c", "import sys, yurewha; print('fsspec' in sys.modules)"], capture_output=True, text=True,
+                          env={**os.environ, "PYTHONPATH": str(Path(y.__file__).parents[1])}, check=True).stdout
+    assert told == "False\n"
+
+
 LINES = b"name,number\n" + b"".join(b"line%d,%d\n" % (number, number * number) for number in range(20_000))
 TABLE = Source(LINES, [*range(0, len(LINES), 5000), len(LINES)])
 OPTIONS = {"hashes": {"table.csv": TABLE.tree.file_hash()}, "fetch": lambda path, start, stop: TABLE.fetch(start, stop),
@@ -270,14 +315,12 @@ OPTIONS = {"hashes": {"table.csv": TABLE.tree.file_hash()}, "fetch": lambda path
 
 def test_pandas_reads_through_it():
     pandas = pytest.importorskip("pandas")
-    fsspec.register_implementation("yurewha", filesystem.VerifiedFileSystem, clobber=True)
     frame = pandas.read_csv("yurewha://table.csv", storage_options=OPTIONS)
     assert len(frame) == 20_000 and frame["number"].iloc[-1] == 19_999**2
 
 
 def test_dask_reads_through_it():
     dataframe = pytest.importorskip("dask.dataframe")
-    fsspec.register_implementation("yurewha", filesystem.VerifiedFileSystem, clobber=True)
     frame = dataframe.read_csv("yurewha://table.csv", storage_options=OPTIONS, blocksize=100_000)
     assert frame.npartitions > 2 and frame["number"].sum().compute(scheduler="threads") == sum(k * k for k in range(20_000))
 

@@ -382,6 +382,20 @@ def test_a_long_update_that_is_ended_appends_nothing():
     assert hasher.hash() == y.data_hash(b"abcd")
 
 
+@pytest.mark.parametrize("show", [bytes, lambda data: memoryview(data)[1:]])
+def test_a_long_update_of_a_file_that_is_ended_is_done_or_not_done(show):
+    """The next use waits for it."""
+    hasher, shown = y.FileHasher(b"abc"), show(GREAT)
+    took, ended = seconds(lambda: hasher.update(shown), 0.03)
+    assert ended and took < 0.03 + SOON + SLACK and hasher.size in (3, 3 + len(shown))
+    if hasher.size == 3:
+        hasher.update(shown)
+    chunk = (y.data_hash(bytes(1 << 17)), 1 << 17)
+    first, last = y.data_hash(b"abc" + bytes((1 << 17) - 3)), (3 + len(shown)) % (1 << 17)
+    assert hasher.file_hash() == y.file_hash(
+        [(first, 1 << 17), *(((3 + len(shown)) >> 17) - 1) * [chunk], (y.data_hash(bytes(last)), last)])
+
+
 def test_the_same_hashes_in_steps(monkeypatch):
     data = random.Random(62).randbytes(100_000)
     expected = [y.data_hash(data[:end]) for end in (99, 100, 101, 1000, 100_000)]
@@ -451,7 +465,7 @@ def test_who_uses_an_object_meanwhile_waits(chunks):
 
 
 def test_an_object_that_nobody_has_any_more(chunks, monkeypatch):
-    """It is freed once the call that goes on has ended."""
+    """It is freed once the call that goes on has ended, and so is what that put the chunks into."""
     freed = []
     for kind in (y.HashTree, y.Session):
         monkeypatch.setattr(kind, "_free", staticmethod(lambda handle, free=kind._free: freed.append(1) or free(handle)))
@@ -466,9 +480,9 @@ def test_an_object_that_nobody_has_any_more(chunks, monkeypatch):
     assert seconds(lambda: y.HashTree(chunks), 15)[1] and seconds(lambda: y.Session().put(0, chunks), 15)[1] and freed == []
     over.set()
     deadline = time.monotonic() + 60
-    while len(freed) < 2 and time.monotonic() < deadline:
+    while len(freed) < 3 and time.monotonic() < deadline:
         time.sleep(0.01)
-    assert len(freed) == 2
+    assert len(freed) == 3
 
 
 def test_errors_of_long_calls_are_the_same():

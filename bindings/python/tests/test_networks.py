@@ -246,6 +246,23 @@ def test_a_server_that_dies_again_and_again(monkeypatch, reader):
 
 
 @READERS
+def test_all_of_a_long_read_is_rescued_again_and_again(monkeypatch, reader):
+    """Also if it is longer than what is rescued beside the last read."""
+    monkeypatch.setattr("yurewha._checked_parts.PIECE", 10_000)
+    monkeypatch.setattr("yurewha._checked_parts._RESCUED", 100 * BESIDE)
+    source = Source(random.Random(36).randbytes(100_000), range(0, 100_001, 1000))
+    server, sent = [Dying(source, 15_000)], 0
+    _, read_at = file_of(reader, source, server, cache_size=0)
+    for _ in range(10):
+        with contextlib.suppress(y.ProofMismatch, ConnectionError):
+            assert read_at(0, 100_000) == source.data
+            break
+        sent += server[0].sent
+        server[0] = Dying(source, 15_000)
+    assert 100_000 <= sent + server[0].sent < 100_000 + 10 * 1000
+
+
+@READERS
 def test_what_is_rescued_was_checked(reader):
     """A server sends a wrong byte once. Of its answer only the chunks before this byte are used later."""
     source = Source(random.Random(37).randbytes(1000), range(0, 1001, 50))
@@ -275,6 +292,22 @@ def test_what_is_rescued_is_forgotten_once_it_was_read(monkeypatch):
     server[0] = Dying(source, 1 << 60)
     assert read_at(5000, 6000) == source.data[5000:6000] and file._rescued.counted() == 3000 + 60 * BESIDE
     assert read_at(0, 10_000) == source.data and file._rescued is None and file._reader.counted() == 0
+
+
+@READERS
+@pytest.mark.parametrize("start, stop", [(0, 1), (0, 3000), (1500, 1501), (2999, 3000), (7000, 7001)])
+def test_another_read_leaves_what_is_rescued(monkeypatch, reader, start, stop):
+    """It is of a part that was rescued, or of another one. Then the read that failed asks for its rest alone."""
+    monkeypatch.setattr("yurewha._checked_parts.PIECE", 1000)
+    source = Source(random.Random(38).randbytes(10_000), range(0, 10_001, 50))
+    server = [Dying(source, 3000)]
+    file, read_at = file_of(reader, source, server, cache_size=0)
+    with pytest.raises(ConnectionError):
+        read_at(0, 10_000)
+    server[0] = Dying(source, 1 << 60)
+    assert read_at(start, stop) == source.data[start:stop]
+    before = server[0].sent
+    assert read_at(0, 10_000) == source.data and server[0].sent - before == 7000 and file._rescued is None
 
 
 def test_what_is_rescued_is_bounded(monkeypatch):
@@ -407,6 +440,60 @@ def test_a_task_that_waits_no_longer(monkeypatch):
         return await file.read_at(0, 5000)
 
     assert asyncio.run(main()) == source.data and sorted(source.fetched) == [(at, at + 1000) for at in range(0, 5000, 1000)]
+
+
+class Interrupt(BaseException):
+    """As Ctrl-C and the end of a task, it is no `Exception`."""
+
+
+@READERS
+@pytest.mark.parametrize("call", ["fetch", "prove"])
+def test_what_was_checked_before_an_interrupt_is_not_asked_for_again(monkeypatch, reader, call):
+    """Also while somebody keeps the error, and with it all that was under way."""
+    monkeypatch.setattr("yurewha._checked_parts.PIECE", 1000)
+    source, late = Source(random.Random(40).randbytes(5000), range(0, 5001, 50)), [3000]
+    asked = getattr(source, call)
+
+    def interrupted(start, stop):
+        if start == late[0]:
+            raise Interrupt
+        return asked(start, stop)
+
+    setattr(source, call, interrupted)
+    _, read_at = reader(source, cache_size=0)
+    with pytest.raises(Interrupt) as kept:
+        read_at(0, 5000)
+    late[0] = -1
+    assert read_at(0, 5000) == source.data and source.fetched == [(at, at + 1000) for at in range(0, 5000, 1000)]
+    assert kept.value.__traceback__ is not None
+
+
+def test_a_task_that_is_cancelled(monkeypatch):
+    """What it had checked isn't asked for again, also while somebody keeps its error."""
+    monkeypatch.setattr("yurewha._checked_parts.PIECE", 1000)
+    source = Source(random.Random(40).randbytes(5000), range(0, 5001, 50))
+
+    async def main():
+        waits, errors = asyncio.Event(), []
+
+        async def fetch(start, stop):
+            if start == 3000 and not errors:
+                waits.set()
+                await asyncio.sleep(60)
+            return source.fetch(start, stop)
+
+        file = y.AsyncVerifiedFile(source.tree.file_hash(), fetch, source.prove, cache_size=0)
+        task = asyncio.ensure_future(file.read_at(0, 5000))
+        await asyncio.wait_for(waits.wait(), 20)
+        task.cancel()
+        try:
+            await task
+        except asyncio.CancelledError as error:
+            errors.append(error)
+        assert len(errors) == 1
+        return await file.read_at(0, 5000)
+
+    assert asyncio.run(main()) == source.data and source.fetched == [(at, at + 1000) for at in range(0, 5000, 1000)]
 
 
 DISHONEST = {
@@ -596,6 +683,31 @@ def test_pieces_that_came_before_an_error_are_not_read_again(length):
             while part := file.read(length):
                 read += part
     assert read == GREAT.data and sum(stop - start for start, stop in fetched) == len(GREAT.data)
+
+
+def test_a_piece_that_a_handler_stopped_waiting_for_is_not_asked_for_again():
+    """It comes meanwhile. The next read waits for it."""
+    go_on, fetched = threading.Event(), []
+
+    def fetch(start, stop):
+        fetched.append((start, stop))
+        assert not file.tell() or go_on.wait(60)
+        return GREAT.data[start:stop]
+
+    def handler(number, frame):
+        raise Interrupt
+
+    file = y.VerifiedFile(GREAT.tree.file_hash(), fetch, GREAT.prove, read_ahead=8 << 20, cache_size=0)
+    read, before = file.read(1 << 16), signal.signal(signal.SIGALRM, handler)
+    try:
+        with pytest.raises(Interrupt):
+            signal.setitimer(signal.ITIMER_REAL, 0.1)
+            file.read(1 << 20)
+    finally:
+        signal.setitimer(signal.ITIMER_REAL, 0)
+        signal.signal(signal.SIGALRM, before)
+    go_on.set()
+    assert read + in_steps(file, 1 << 20) == GREAT.data and sum(stop - start for start, stop in fetched) == len(GREAT.data)
 
 
 def test_a_file_that_is_closed_reads_no_further_ahead():

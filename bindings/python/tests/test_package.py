@@ -89,7 +89,7 @@ def test_the_structs_are_those_of_the_header(tmp_path):
         "yurewha_hash": ["words"], "yurewha_bytes": ["bytes"], "yurewha_chunk": ["hash", "size"],
         "yurewha_level": ["left", "right"], "yurewha_hasher": ["state"], "yurewha_subtree": ["at"],
         "yurewha_session": ["at"], "yurewha_hash_tree": ["at"], "yurewha_opened_range": ["at"], "yurewha_reader": ["at"],
-        "yurewha_part": ["at"], "yurewha_hash_index": ["at"],
+        "yurewha_part": ["at"], "yurewha_hash_index": ["at"], "yurewha_chunker": ["size", "gear"], "yurewha_file_hasher": ["at"],
     }
     expected = []
     for name, size in _declarations.STRUCTS.items():
@@ -111,7 +111,7 @@ def test_the_structs_are_those_of_the_header(tmp_path):
 
 #: What Python does in less time than a call takes: the order and the hex text of a hash. And calls that save other languages a step: a
 #: file's `prove` returns a proof that was read, and it has no limit of its size.
-UNUSED = ["yurewha_compare", "yurewha_hex", "yurewha_part_open_json", "yurewha_part_file_size"]
+UNUSED = ["yurewha_compare", "yurewha_hex", "yurewha_part_file_size"]
 
 
 def test_each_call_of_the_library_is_used():

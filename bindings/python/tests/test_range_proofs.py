@@ -215,6 +215,17 @@ def test_no_such_bytes(start, stop):
             call(start, stop)
 
 
+@pytest.mark.parametrize("count", [1, 2, 30])
+def test_no_bytes_of_empty_chunks(count):
+    """The proof of the first chunk shows the size of the file, to whoever asks for a byte."""
+    tree = y.HashTree([(h(4), 0)] * count)
+    for start, stop in ((0, 1), (0, MAX), (5, 6), (MAX - 1, MAX)):
+        assert tree.proof_of_bytes(start, stop) == tree.proof(0, 1)
+    for start, stop in ((0, 0), (5, 5), (5, 4), (1, 0), (MAX, MAX)):
+        with pytest.raises(y.InvalidArguments, match=f"the file has no bytes from {start} up to {stop}"):
+            tree.proof_of_bytes(start, stop)
+
+
 def test_no_chunks():
     tree = y.HashTree([])
     assert tree.root == tree.file_hash() == tree.file_hash(h(4).bytes) == Z

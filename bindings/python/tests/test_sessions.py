@@ -43,6 +43,20 @@ def test_a_run_is_a_pair_and_has_its_end():
         low.end = 7
 
 
+def test_runs_are_equal_if_all_that_they_say_is():
+    tree, other = (y.Subtree.from_chunks(False, [(Z, size)] * 2, False) for size in (1, 2))
+    run = y.Run(3, 5, tree)
+    for equal in (y.Run(3, 5, tree.copy()), (3, tree), pickle.loads(pickle.dumps(run))):
+        assert run == equal and equal == run and not run != equal and not equal != run
+    for unequal in (y.Run(3, 6, tree), y.Run(4, 5, tree), y.Run(3, 5, other), (3, 5, tree), (4, tree), [3, tree], 3, None):
+        assert run != unequal and unequal != run and not run == unequal and not unequal == run
+    one, two = y.Session(), y.Session()
+    one.push_run(0, 2, tree), two.push_run(0, 3, tree)
+    assert one != two and one.runs() != two.runs() and one.run(0) != two.run(0) and one.runs() == one.copy().runs()
+    with pytest.raises(TypeError, match="unhashable"):
+        hash(run)
+
+
 def test_wrong_runs():
     tree = y.Subtree.from_chunks(False, [ONE], False)
     for first, end in ((3, 3), (3, 2), (-1, 2), (0, MAX + 1), (MAX + 1, MAX + 2)):
@@ -176,7 +190,7 @@ def test_an_overlap_is_found_by_few_calls(monkeypatch, first, count, taken):
             monkeypatch.setattr(calls, name, lambda *given, call=getattr(calls, name): made.append(call) or call(*given))
     with pytest.raises(y.SessionOverlap, match=f"^position {taken} is taken$"):
         one.put(first, bytes(40 * count))
-    assert len(made) <= 3
+    assert len(made) <= 4
 
 
 # ---- JSON
@@ -282,7 +296,7 @@ FORGED = [
         two_runs().to_json().replace('"end":8', '"end":8,"end":8'),
         two_runs().to_json().replace('"at_end":', '"at_end":true,"at_end":'), two_runs().to_json().replace('"size":', '"size":7,"size":'),
         "", "{", "nan", '{"runs":[],"known_hashes":[[NaN,0,0,0]]}', '{"runs":[],"known_hashes":[]}x', b"\xff",
-        '{"runs":[],"known_hashes":[]}'.encode("utf-16"), "[" * 100_000, '{"a":' * 100_000, "[" * 128 + "]" * 128, "1" * 5000,
+        '{"runs":[],"known_hashes":[]}'.encode("utf-16"), "[" * 100_000, '{"a":' * 100_000, "[" * 33 + "]" * 33, "1" * 5000,
         forged("runs", 1, "chunks", "nodes", 0, "hash", value="\ud800"))),
     (y.InvalidText, "lone surrogate", '{"runs":[],"known_hashes":[],"\ud800":1}'),
     *((TypeError, "", value) for value in (7, None, {}, [], y.Session())),

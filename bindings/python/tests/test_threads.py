@@ -13,6 +13,7 @@ import threading
 import time
 
 import pytest
+from counting import losing
 
 import yurewha as y
 from yurewha import _declarations, _guard, _hash, _hash_index, _library
@@ -461,6 +462,11 @@ def test_long_calls_give_up_the_interpreter():
 @pytest.mark.filterwarnings("ignore::pytest.PytestUnraisableExceptionWarning")  # a handler may raise in __del__ too
 def test_signals_that_use_the_object_or_end_the_call():
     """A handler runs between any two steps; it uses the same objects, and raises now and then."""
+    with losing():
+        use_objects_between_signals()
+
+
+def use_objects_between_signals():
     class Ended(Exception):
         pass
 
@@ -650,6 +656,65 @@ def test_what_is_read_is_of_one_moment(monkeypatch):
         runs = session.runs()
         monkeypatch.undo()
     assert [first for first, _ in runs] == [0, 4] and runs == session.runs()
+
+
+def test_a_range_that_is_given_twice_is_of_one_moment(monkeypatch):
+    """Somebody merges into it before the call has its lock."""
+    one, more = (y.Subtree.from_chunks(False, block(seed, 5), False) for seed in (8, 9))
+    expected = (one + more) + (one + more)
+    given = [one, one]
+
+    def late(items, plain=_guard.all_locked):
+        if given:
+            given.clear()
+            one.merge(more)
+        return plain(items)
+
+    monkeypatch.setattr("yurewha._subtree.all_locked", late)
+    assert y.Subtree.merge_all([*given]) == expected and given == []
+
+
+def test_a_subtree_added_to_itself_is_of_one_moment(monkeypatch):
+    """Somebody merges into it after it was copied."""
+    one, more = (y.Subtree.from_chunks(False, block(seed, 5), False) for seed in (8, 9))
+    expected, plain = one + one.copy(), y.Subtree.copy
+
+    def late(self):
+        copied = plain(self)
+        if self is one:
+            one.merge(more)
+        return copied
+
+    monkeypatch.setattr(y.Subtree, "copy", late)
+    assert one + one == expected
+
+
+def test_the_text_of_a_subtree_is_of_one_moment(monkeypatch):
+    """Somebody merges into it after its levels were read."""
+    one, more = (y.Subtree.from_chunks(False, block(seed, 5), False) for seed in (8, 9))
+    before, changed = repr(one), []
+
+    def late(self, plain=y.Subtree._to_flat):
+        flat = plain(self)
+        changed.append(one.merge(more))
+        return flat
+
+    monkeypatch.setattr(y.Subtree, "_to_flat", late)
+    assert repr(one) == before and len(changed) == 1
+    monkeypatch.undo()
+    assert repr(one) != before
+
+
+@pytest.mark.parametrize("change", [
+    lambda session: session.put(5, block(8, 1)), lambda session: session.push_run(5, 6, y.Subtree.from_chunks(False, block(8, 1), False)),
+    lambda session: session.keep_hashes([y.Hash()])], ids=["put", "push_run", "keep_hashes"])
+def test_each_change_by_a_handler_is_seen(change):
+    """Whoever reads runs one after another looks whether something was changed meanwhile."""
+    session = y.Session()
+    before = session._changes
+    assert not session.num_runs and session._changes == before
+    change(session)
+    assert session._changes > before
 
 
 def test_a_pickle_while_a_handler_puts(monkeypatch):

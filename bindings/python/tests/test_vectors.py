@@ -1,5 +1,6 @@
 """The scripts of tests/vectors/, through the package: calls of the library with their answers. Skipped where there is no library."""
 
+import functools
 import json
 from pathlib import Path
 
@@ -9,7 +10,7 @@ y = pytest.importorskip("yurewha", reason="there is no libyurewha: run make -C b
 
 FOLDER = Path(__file__).resolve().parents[3] / "tests/vectors/scripts"
 NAMES = ("hashes", "texts", "roots", "subtrees", "merges", "subtree_json", "range_proofs", "sessions", "session_json", "hash_indexes",
-         "upstream")
+         "files", "upstream")
 
 # ---- Calls: what each call of the library is here
 
@@ -121,6 +122,15 @@ CALLS = {
     "hash_index_find": y.HashIndex.numbers,
     "hash_index_entries": entries,
     "hash_index_len": y.HashIndex.__len__,
+    "chunker_begin": y.Chunker,
+    "chunker_next_boundary": y.Chunker.next_boundary,
+    "chunker_taken": lambda chunker: chunker.taken,
+    "file_hasher_new": y.FileHasher,
+    "file_hasher_update": y.FileHasher.update,
+    "file_hasher_size": lambda file_hasher: file_hasher.size,
+    "file_hasher_root": y.FileHasher.root,
+    "file_hasher_finish": y.FileHasher.file_hash,
+    "file_hasher_finish_with_salt": y.FileHasher.file_hash,
 }
 #: Calls of the library that the package doesn't have.
 ABSENT = {"session_next_gap", "hash_tree_common_prefix", "hash_tree_common_suffix", "range_proof_from_chunks"}
@@ -181,9 +191,28 @@ def chunks_of(told):
     return RULES[rule](it)[slice(*told.get("part", (0, None)))]
 
 
+@functools.cache
+def mixed_bytes(count):
+    """The first numbers of SplitMix64 from the seed 0 on, each with its lowest byte first."""
+    made, state, mask = bytearray(), 0, 2**64 - 1
+    while len(made) < count:
+        state = (state + 0x9E3779B97F4A7C15) & mask
+        number = ((state ^ state >> 30) * 0xBF58476D1CE4E5B9) & mask
+        number = ((number ^ number >> 27) * 0x94D049BB133111EB) & mask
+        made += (number ^ number >> 31).to_bytes(8, "little")
+    return bytes(made)
+
+
 def data_of(told):
     """The bytes of a hex text, or those that a rule tells."""
-    return bytes.fromhex(told) if isinstance(told, str) else bytes(i % 251 for i in range(*told["message"]))
+    if isinstance(told, str):
+        return bytes.fromhex(told)
+    if "mixed" in told:
+        return mixed_bytes(told["mixed"][1])[slice(*told["mixed"])]
+    if "repeated" in told:
+        repeated = bytes.fromhex(told["repeated"])
+        return (repeated * (told["part"][1] // len(repeated) + 1))[slice(*told["part"])]
+    return bytes(i % 251 for i in range(*told["message"]))
 
 
 KINDS = {

@@ -1,9 +1,11 @@
-"""`python -m yurewha` prints what is installed, and the level of processors whose code runs."""
+"""`python -m yurewha` prints what is installed, and the level of processors whose code runs; `python -m yurewha sum` hashes of files."""
 
 import ctypes
+import signal
+import sys
 from typing import List
 
-from . import __version__
+from . import __version__, _sum
 from ._library import IS_WINDOWS, LEVEL, NAME, PATH, short
 
 
@@ -42,5 +44,18 @@ def report() -> List[str]:
     return [f"yurewha {__version__}", f"library: {loaded()}, version {version()}", f"level: {LEVEL}"]
 
 
-if __name__ == "__main__":
+def main(words: List[str]) -> int:
+    """Does what the words of a command say, and returns its status."""
+    if words[:1] == ["sum"]:
+        if signal.getsignal(signal.SIGINT) is signal.default_int_handler:
+            signal.signal(signal.SIGINT, signal.SIG_DFL)  # Ctrl-C ends the process without a word
+        return _sum.main(words[1:])
+    if words:
+        print("usage: python -m yurewha [sum [-h | WORD..]]", file=sys.stderr)
+        return 2
     print("\n".join(report()))
+    return 0
+
+
+if __name__ == "__main__":
+    sys.exit(main(sys.argv[1:]))

@@ -154,6 +154,10 @@ class CheckedParts:
         # The default hash is the hash of the empty file.
         self._size = None if any(self._raw) else 0
 
+    def __sizeof__(self) -> int:
+        """Returns how many bytes the object takes with what it keeps."""
+        return object.__sizeof__(self) + sum(reader.__sizeof__() for reader in (self._reader, self._rescued) if reader)
+
     def _found_size(self) -> Steps[int]:
         """Returns the size of the file. If nothing was checked yet, the first chunk is asked for."""
         if self._size is None:
@@ -200,7 +204,8 @@ class CheckedParts:
             self._rescue(answers, had)
             raise
         rescued = self._rescued
-        if parts and rescued is not None and rescued.read(start, 1)[0]:
+        # A read of a part of what was rescued leaves all of it to the one that failed. One that went beyond it is that one.
+        if rescued is not None and position > start + had and rescued.read(start, 1)[0]:
             self._rescued = None
         return parts
 
@@ -241,7 +246,7 @@ class CheckedParts:
         return Part(proof, self._raw, self._salt, start, stop, self._chunk_limit)
 
     def _rescue(self, answers: List[Answer], had: int) -> None:
-        """Keeps what came for a read that failed, until a read of it succeeds, whatever the size of the cache. It is checked again.
+        """Keeps what came for a read that failed, until a read goes beyond it, whatever the size of the cache. It is checked again.
 
         So many bytes of the read were kept before. What is rescued of others is limited.
         """

@@ -3,8 +3,9 @@
 from __future__ import annotations
 
 from collections import deque
-from typing import Callable, Deque, Generator, Iterable, Iterator, SupportsIndex, Tuple, Union
+from typing import Callable, Deque, Generator, Iterable, Iterator, Optional, SupportsIndex, Tuple, Union
 
+from ._chunker import xet_cuts
 from ._errors import InvalidArguments, but_got, told_type
 from ._hash import PIECE, Hash, Hasher, checked_u64
 from ._types import Readable
@@ -12,20 +13,25 @@ from ._types import Readable
 __all__ = ["hash_cuts"]
 
 #: A function that gets the pieces of a stream, and yields where chunks end.
-Chunker = Callable[[Iterator[bytes]], Iterable[SupportsIndex]]
+OwnChunker = Callable[[Iterator[bytes]], Iterable[SupportsIndex]]
 
 
-def hash_cuts(stream: Readable, cuts: Union[Chunker, Iterable[SupportsIndex]]) -> Generator[Tuple[Hash, int], None, None]:
+def hash_cuts(
+    stream: Readable, cuts: Optional[Union[OwnChunker, Iterable[SupportsIndex]]] = None
+) -> Generator[Tuple[Hash, int], None, None]:
     """Yields the hash and the size of each chunk of a stream, once the chunk was read. Each byte is read once.
 
-    `cuts` says where chunks end, counted in bytes from where the stream is now. The last chunk ends with the stream. `cuts` is an iterable of
-    numbers, or a chunker: a function that gets the pieces of the stream as they are read, of at most a MiB each, and yields the numbers.
-    Until it has yielded a cut, the pieces after the last one are kept.
+    Without `cuts`, chunks end where Xet cuts a file, as `Chunker` does. Else `cuts` says where they end, counted in bytes from where the
+    stream is now. The last chunk ends with the stream. `cuts` is an iterable of numbers, or a chunker of your own: a function that gets the
+    pieces of the stream as they are read, of at most a MiB each, and yields the numbers. Until it has yielded a cut, the pieces after the
+    last one are kept.
 
     Raises `InvalidArguments` if a cut is less than the one before it, is past the end of the stream, or is one of a chunker that wasn't
-    given so many bytes yet. What was yielded before an error stays right. Nothing here is Xet's chunker.
+    given so many bytes yet. What was yielded before an error stays right.
 
     >>> import io
+    >>> [size for hash_, size in hash_cuts(io.BytesIO(bytes(300_000)))]
+    [131072, 131072, 37856]
     >>> def after_each_line(pieces):
     ...     place = 0
     ...     for piece in pieces:
@@ -41,6 +47,8 @@ def hash_cuts(stream: Readable, cuts: Union[Chunker, Iterable[SupportsIndex]]) -
     if not callable(getattr(stream, "read", None)):
         raise TypeError(but_got("stream must have a method `read`", told_type(stream)))
     left = _Left(stream)
+    if cuts is None:
+        return _chunks(left, xet_cuts(left.pieces()), True)
     if callable(cuts):
         return _chunks(left, cuts(left.pieces()), True)
     return _chunks(left, iter(cuts), False)
@@ -58,6 +66,19 @@ def _chunks(left: _Left, cuts: Iterable[SupportsIndex], by_chunker: bool) -> Gen
         yield left.rest()
 
 
+def part_of(stream: Readable, most: int) -> bytes:
+    """Returns the next bytes of a stream, at most so many, or none at its end.
+
+    >>> import io
+    >>> part_of(io.BytesIO(b"abc"), 2)
+    b'ab'
+    """
+    part = stream.read(most)
+    if not isinstance(part, bytes):
+        raise TypeError(but_got("`read` must return bytes", told_type(part)))
+    return part
+
+
 class _Left:
     """What is left of a stream: the pieces that were read and not hashed yet, and those that were not read."""
 
@@ -70,9 +91,7 @@ class _Left:
     def pieces(self) -> Iterator[bytes]:
         """Reads the pieces, one after another."""
         while True:
-            piece = self._stream.read(PIECE)
-            if not isinstance(piece, bytes):
-                raise TypeError(but_got("`read` must return bytes", told_type(piece)))
+            piece = part_of(self._stream, PIECE)
             if not piece:
                 return
             self._read.append(memoryview(piece))

@@ -40,6 +40,19 @@ DECLARATIONS: Dict[str, Declaration] = {
     "yurewha_hasher_count": ("uint64_t", ("const yurewha_hasher *",)),
     "yurewha_hasher_update": ("yurewha_status", ("yurewha_hasher *", "const uint8_t *", "size_t")),
     "yurewha_hasher_finalize": ("void", ("const yurewha_hasher *", "yurewha_hash *")),
+    # The chunker
+    "yurewha_chunker_begin": ("void", ("yurewha_chunker *",)),
+    "yurewha_chunker_next_boundary": ("uint64_t", ("yurewha_chunker *", "const uint8_t *", "size_t")),
+    "yurewha_chunker_taken": ("uint64_t", ("const yurewha_chunker *",)),
+    # Hashers of files
+    "yurewha_file_hasher_new": ("yurewha_status", ("yurewha_file_hasher *",)),
+    "yurewha_file_hasher_update": ("yurewha_status", ("yurewha_file_hasher *", "const uint8_t *", "size_t")),
+    "yurewha_file_hasher_size": ("yurewha_status", ("yurewha_file_hasher *", "uint64_t *")),
+    "yurewha_file_hasher_root": ("yurewha_status", ("yurewha_file_hasher *", "yurewha_hash *")),
+    "yurewha_file_hasher_finish": ("yurewha_status", ("yurewha_file_hasher *", "yurewha_hash *")),
+    "yurewha_file_hasher_finish_with_salt": (
+        "yurewha_status", ("yurewha_file_hasher *", "const yurewha_bytes *", "yurewha_hash *")),
+    "yurewha_file_hasher_free": ("void", ("yurewha_file_hasher *",)),
     # Roots
     "yurewha_xorb_hash": ("yurewha_status", ("const yurewha_chunk *", "size_t", "yurewha_hash *")),
     "yurewha_file_hash": ("yurewha_status", ("const yurewha_chunk *", "size_t", "yurewha_hash *")),
@@ -169,9 +182,6 @@ DECLARATIONS: Dict[str, Declaration] = {
     "yurewha_part_open": (
         "yurewha_status",
         ("const yurewha_level *", "size_t", "const yurewha_chunk *", "size_t", "const yurewha_hash *", "const yurewha_bytes *", "uint64_t", "uint64_t", "uint64_t", "uint64_t *", "uint64_t *", "yurewha_part *")),
-    "yurewha_part_open_json": (
-        "yurewha_status",
-        ("const char *", "size_t", "const yurewha_hash *", "const yurewha_bytes *", "uint64_t", "uint64_t", "uint64_t", "uint64_t *", "uint64_t *", "yurewha_part *")),
     "yurewha_part_check": (
         "yurewha_status", ("yurewha_part *", "const uint8_t *", "size_t", "bool", "size_t *", "size_t *")),
     "yurewha_part_file_size": ("yurewha_status", ("yurewha_part *", "uint64_t *")),
@@ -226,6 +236,7 @@ MEMBERS: Dict[str, Tuple[Member, ...]] = {
     "yurewha_chunk": (("hash", "yurewha_hash", 1), ("size", "uint64_t", 1)),
     "yurewha_level": (("left", "size_t", 1), ("right", "size_t", 1)),
     "yurewha_hasher": (("state", "uint64_t", 256),),
+    "yurewha_chunker": (("size", "size_t", 1), ("gear", "uint64_t", 1)),
     "yurewha_subtree": (("at", "uint8_t *", 1),),
     "yurewha_session": (("at", "uint8_t *", 1),),
     "yurewha_hash_tree": (("at", "uint8_t *", 1),),
@@ -233,6 +244,7 @@ MEMBERS: Dict[str, Tuple[Member, ...]] = {
     "yurewha_part": (("at", "uint8_t *", 1),),
     "yurewha_reader": (("at", "uint8_t *", 1),),
     "yurewha_hash_index": (("at", "uint8_t *", 1),),
+    "yurewha_file_hasher": (("at", "uint8_t *", 1),),
 }
 
 #: The structs that calls use, and their sizes in bytes.
@@ -242,6 +254,7 @@ STRUCTS: Dict[str, int] = {
     "yurewha_chunk": 40,
     "yurewha_level": 16,
     "yurewha_hasher": 2048,
+    "yurewha_chunker": 16,
     "yurewha_subtree": 8,
     "yurewha_session": 8,
     "yurewha_hash_tree": 8,
@@ -249,4 +262,5 @@ STRUCTS: Dict[str, int] = {
     "yurewha_part": 8,
     "yurewha_reader": 8,
     "yurewha_hash_index": 8,
+    "yurewha_file_hasher": 8,
 }

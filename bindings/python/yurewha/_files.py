@@ -45,8 +45,7 @@ def hash_chunks(
     True
     """
     name, count = os.fspath(path), checked_threads(threads)
-    if progress is not None and not callable(progress):
-        raise TypeError(but_got("progress must be a callable", type(progress).__name__))
+    check_progress(progress)
     hashes = bytearray()
     with open(name, "rb", buffering=0) as file:
         places = checked_offsets(offsets, file.seek(0, os.SEEK_END))
@@ -56,6 +55,15 @@ def hash_chunks(
                 if progress is not None:
                     progress(end - places[0], places[-1] - places[0])
     return Hashes._of(bytes(hashes))
+
+
+def check_progress(progress: object) -> None:
+    """Raises `TypeError` if what is to be told of progress is neither a callable nor None.
+
+    >>> check_progress(print)
+    """
+    if progress is not None and not callable(progress):
+        raise TypeError(but_got("progress must be a callable", type(progress).__name__))
 
 
 class _Shared(Guarded):

@@ -18,7 +18,7 @@ import threading
 from contextlib import ExitStack
 from typing import Any, ClassVar, Iterable, Tuple
 
-from ._errors import InUseAtFork
+from ._errors import InUseAtFork, YurewhaError
 
 
 class _Process:
@@ -83,6 +83,18 @@ class Handle(Guarded):
     _handle: Any
     #: The call that frees such a handle, and leaves it empty.
     _free: ClassVar[Any]
+
+    def _memory(self) -> int:
+        """Returns about how many bytes the library has for the object."""
+        return 0
+
+    def __sizeof__(self) -> int:
+        """Returns how many bytes the object takes, and about how many the library has for it."""
+        own = object.__sizeof__(self)
+        try:
+            return own + self._memory()
+        except (YurewhaError, AttributeError):
+            return own  # it is empty, or another thread used it when this process was forked, or it wasn't completely made
 
     def __del__(self) -> None:
         # When the interpreter calls this, nobody else has the object. A call by hand waits for other threads and leaves an

@@ -337,6 +337,9 @@ class Hash:
     def __hash__(self) -> int:
         return hash(self._raw)
 
+    def __dask_tokenize__(self) -> Tuple[str, str]:
+        return "yurewha.Hash", self.hex()
+
     def __str__(self) -> str:
         return _bytes_in_order(*_words_of(self._raw)).hex()
 

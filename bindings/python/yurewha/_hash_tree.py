@@ -3,12 +3,14 @@
 from __future__ import annotations
 
 import ctypes
-from typing import NamedTuple, Optional, Tuple, Type, final
+from typing import NamedTuple, Optional, SupportsIndex, Tuple, Type, final
 
+from ._accounts import memory_of_tree, token_of
 from ._chunks import Chunks, ChunksLike
 from ._errors import InvalidArguments, YurewhaError, but_got, counted, error_of
 from ._guard import Handle, both_locked
 from ._hash import Hash, checked_32, checked_u64
+from ._hash_file import Progress, Source, all_chunks_of
 from ._interrupts import MANY_NODES, interruptible
 from ._library import LONG_CHUNKS, LONG_NODES, CChunk, CHash, CHashTree, CLevel, calls_for, short
 from ._range_proof import MOST_LEVELS, RangeProof
@@ -80,6 +82,16 @@ class HashTree(Handle):
         raise TypeError("HashTree can't be subclassed")
 
     _free = staticmethod(short.yurewha_hash_tree_free)
+
+    @staticmethod
+    def of_file(path: Source, *, threads: Optional[SupportsIndex] = None, progress: Optional[Progress] = None) -> HashTree:
+        """Returns the tree of the chunks of a file, where Xet cuts it. The arguments are those of `hash_file`.
+
+        >>> import io
+        >>> HashTree.of_file(io.BytesIO(bytes(300_000)))
+        <yurewha.HashTree of 3 chunks, 300000 bytes>
+        """
+        return HashTree(all_chunks_of(path, threads, progress))
 
     # ---- The file
 
@@ -302,6 +314,12 @@ class HashTree(Handle):
 
     def __hash__(self) -> int:
         return hash(self.root)
+
+    def __dask_tokenize__(self) -> Tuple[str, ...]:
+        return token_of("HashTree", self.chunks.packed)
+
+    def _memory(self) -> int:
+        return memory_of_tree(self.num_chunks)
 
     def __copy__(self) -> HashTree:
         return self

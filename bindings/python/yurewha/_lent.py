@@ -8,7 +8,7 @@ from typing import Callable, Optional, Type, TypeVar, cast
 
 from ._calls import named, string_at
 from ._errors import but_got
-from ._types import BytesLike, view_of
+from ._types import BytesLike, check_mask, view_of
 
 
 class _CBuffer(ctypes.Structure):
@@ -52,12 +52,16 @@ _ADDRESS = re.compile("[OPXz&]|Z(?![fdg])")
 def checked_view(view: memoryview) -> memoryview:
     """Returns the same view. Raises `TypeError` if its bytes are addresses, as in a NumPy array of Python objects.
 
+    Raises `InvalidArguments` if it shows a masked array of NumPy that has a masked item.
+
     >>> checked_view(memoryview(b"ab")).nbytes
     2
     """
     format_ = view.format
     if format_ != "B" and _ADDRESS.search(_FIELD.sub("", format_)):
         raise TypeError(but_got("data must be bytes", f"'{format_}', the addresses of objects"))
+    if type(view.obj) is not bytes:
+        check_mask(view.obj)
     return view
 
 
@@ -68,7 +72,7 @@ def view_of_bytes(data: BytesLike) -> memoryview:
     2
     """
     try:
-        view = view_of(data)
+        view = memoryview(data)  # type: ignore[arg-type]
     except TypeError:
         raise TypeError(but_got("data must be bytes, or an object that lends its bytes", type(data).__name__)) from None
     return checked_view(view)

@@ -66,6 +66,10 @@ class CHasher(ctypes.Structure):
     _fields_ = _fields("yurewha_hasher")
 
 
+class CChunker(ctypes.Structure):
+    _fields_ = _fields("yurewha_chunker")
+
+
 class CSubtree(ctypes.Structure):
     _fields_ = _fields("yurewha_subtree")
 
@@ -94,6 +98,10 @@ class CHashIndex(ctypes.Structure):
     _fields_ = _fields("yurewha_hash_index")
 
 
+class CFileHasher(ctypes.Structure):
+    _fields_ = _fields("yurewha_file_hasher")
+
+
 #: The structs by their names in the header.
 STRUCT_TYPES: Dict[str, Any] = {
     "yurewha_hash": CHash,
@@ -101,6 +109,7 @@ STRUCT_TYPES: Dict[str, Any] = {
     "yurewha_chunk": CChunk,
     "yurewha_level": CLevel,
     "yurewha_hasher": CHasher,
+    "yurewha_chunker": CChunker,
     "yurewha_subtree": CSubtree,
     "yurewha_session": CSession,
     "yurewha_hash_tree": CHashTree,
@@ -108,6 +117,7 @@ STRUCT_TYPES: Dict[str, Any] = {
     "yurewha_reader": CReader,
     "yurewha_part": CPart,
     "yurewha_hash_index": CHashIndex,
+    "yurewha_file_hasher": CFileHasher,
 }
 
 #: The ctypes type for each type of the header. If a call only reads bytes, a hash, a key or chunks, it gets a Python `bytes`
@@ -127,8 +137,9 @@ _TYPES: Dict[str, Any] = {
     "const yurewha_bytes *": ctypes.c_char_p,
     "const yurewha_chunk *": ctypes.c_char_p,
     "const yurewha_level *": ctypes.c_char_p,
-    # A hasher that is only read is an exception: it is one of the structs below.
+    # A hasher or a chunker that is only read is an exception: it is one of the structs below.
     "const yurewha_hasher *": ctypes.POINTER(CHasher),
+    "const yurewha_chunker *": ctypes.POINTER(CChunker),
     "char *": ctypes.POINTER(ctypes.c_char),
     "bool *": ctypes.POINTER(ctypes.c_bool),
     "size_t *": ctypes.POINTER(ctypes.c_size_t),

@@ -22,10 +22,11 @@ from typing import (
     overload,
 )
 
+from ._accounts import token_of
 from ._arrow import block_of_array, block_of_stream
 from ._errors import InvalidArguments, but_got, told_type
 from ._lent import bytes_of
-from ._types import Array, view_of
+from ._types import Array, check_mask, view_of
 
 #: What picks items of a list: their numbers, or a bool for each, as a list or a column of NumPy.
 Picked = Union[Sequence[SupportsIndex], Array]
@@ -61,11 +62,14 @@ def block_or_items(values: object, expected: str) -> Union[memoryview, Iterable[
     if column is not None:
         return column
     if make is not None:
+        check_mask(values)
         values = make()
     try:
         view = view_of(values)
     except TypeError:
         return cast(Iterable[object], values)
+    except InvalidArguments:
+        raise
     except (ValueError, BufferError) as error:
         raise InvalidArguments(but_got(expected, f"a buffer that can't be read: {error}")) from None
     # Arrays of objects or of texts have items.
@@ -228,6 +232,13 @@ class Packed(Sequence[_Item]):
 
     def __hash__(self) -> int:
         return hash(self._packed)
+
+    def __dask_tokenize__(self) -> Tuple[str, ...]:
+        return token_of(type(self).__name__, self._packed)
+
+    def __sizeof__(self) -> int:
+        """Returns how many bytes the object takes with its block."""
+        return object.__sizeof__(self) + len(self._packed)
 
     def __bytes__(self) -> bytes:
         return self._packed

@@ -16,6 +16,7 @@ from typing import (
     final,
 )
 
+from ._accounts import memory_of_range, token_of
 from ._calls import string_at
 from ._chunks import Chunks, ChunksLike
 from ._errors import ProofMismatch, ProofTooLong, YurewhaError, but_got, error_of
@@ -334,6 +335,13 @@ class RangeProof:
     def __hash__(self) -> int:
         return hash((self._levels, self._nodes))
 
+    def __dask_tokenize__(self) -> Tuple[str, ...]:
+        return token_of("RangeProof", self._levels, self._nodes.packed)
+
+    def __sizeof__(self) -> int:
+        """Returns how many bytes the object takes with its lists."""
+        return object.__sizeof__(self) + len(self._levels) + len(self._nodes.packed)
+
     def __copy__(self) -> RangeProof:
         return self
 
@@ -488,7 +496,7 @@ class OpenedRange(Handle):
             with self._locked():
                 return int(calls.yurewha_opened_range_check(self._handle, number, start, length, place))
 
-        status = interruptible(lambda: _passed(data, nobody_writes, check), _is_great(data), self)
+        status = interruptible(lambda: passed(data, nobody_writes, check), is_great(data), self)
         if status:
             begin = self.begins(number)  # raises if there is no such chunk
             error = error_of(status, f"this isn't the data of chunk {number} of the range")
@@ -551,6 +559,9 @@ class OpenedRange(Handle):
             return f"the range has {end - begin} bytes, and the data {length}"
         return "this isn't the data of the range"
 
+    def _memory(self) -> int:
+        return memory_of_range(self.num_chunks)
+
     def __copy__(self) -> OpenedRange:
         return self
 
@@ -569,13 +580,22 @@ class OpenedRange(Handle):
         return f"<yurewha.OpenedRange of {_counted(count, 'chunk')}: {places}, by the proof's word>"
 
 
-def _is_great(data: BytesLike) -> bool:
+def is_great(data: BytesLike) -> bool:
+    """Returns whether a call that reads these bytes may take longer than a tenth of a second.
+
+    >>> is_great(b"abc")
+    False
+    """
     with view_of_bytes(data) as view:
         return view.nbytes >= MANY_BYTES
 
 
-def _passed(data: BytesLike, nobody_writes: bool, call: Callable[[Start, int], int]) -> int:
-    """Passes bytes to a call at once, in place if nobody can write to them or if the caller promises it, else as a copy."""
+def passed(data: BytesLike, nobody_writes: bool, call: Callable[[Start, int], int]) -> int:
+    """Passes bytes to a call at once, in place if nobody can write to them or if the caller promises it, else as a copy.
+
+    >>> passed(b"abc", False, lambda start, length: length)
+    3
+    """
     checked_bool(nobody_writes, "nobody_writes")
     if type(data) is bytes:
         return call(data, len(data))

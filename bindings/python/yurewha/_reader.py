@@ -96,6 +96,9 @@ class Reader(Handle):
             raise error_of(status)
         return out.value
 
+    def _memory(self) -> int:
+        return self.counted()
+
     def keep_at_most(self, most: int) -> None:
         """Changes what all chunks may count. Those that were used longest ago are forgotten until they do."""
         with self._locked():

@@ -3,13 +3,17 @@
 from __future__ import annotations
 
 import ctypes
+import struct
+import threading
 from typing import Callable, ClassVar, Iterable, Iterator, List, Optional, Tuple, Type, Union, final
 
+from ._accounts import memory_of_session, token_of
 from ._chunks import Chunks, ChunksLike
 from ._declarations import STATUSES
 from ._errors import InvalidArguments, SessionGap, SessionOverlap, SessionSizes, YurewhaError, but_got, error_of
 from ._guard import Handle, both_locked
 from ._hash import Hash, HashLike, checked_32, checked_bool, checked_text, checked_u64, own_bytes, raw_of
+from ._hash_index import AT_ONCE, HashIndex
 from ._hashes import Hashes, HashesLike
 from ._interrupts import MANY_BYTES, MANY_NODES, interruptible
 from ._library import LONG_BYTES, LONG_CHUNKS, LONG_NODES, CChunk, CHash, CSession, calls_for, long, short
@@ -20,6 +24,7 @@ from ._types import BytesLike
 
 __all__ = ["Run", "Session"]
 
+_MAX_U64 = 2**64 - 1
 _CHUNK_SIZE = ctypes.sizeof(CChunk)
 _HASH_SIZE = ctypes.sizeof(CHash)
 #: The first position of a run, the position after its last one, and the subtree of its chunks.
@@ -27,6 +32,9 @@ Span = Tuple[int, int, Subtree]
 _Restore = Callable[..., "Session"]
 # Room for JSON: more than a handler adds to a session meanwhile; for a short run, and for a hash with its comma.
 _MORE_ROOM, _ROOM_OF_RUN, _ROOM_OF_HASH = 1 << 16, 1 << 10, 87
+# Of so many runs the size is looked at, because looking at one copies its subtree.
+_LOOKED_AT = 16
+_EACH = struct.Struct(f"{_HASH_SIZE}s")
 # About as many nodes as a run of many chunks has.
 _NODES_OF_RUN = 1 << 9
 
@@ -101,6 +109,19 @@ class Run(Tuple[int, Subtree]):
         """
         return self[1]
 
+    def __eq__(self, other: object) -> bool:
+        """Returns whether two runs have the same positions and equal subtrees. A run also equals its pair, which has no end."""
+        if isinstance(other, Run) and self._end != other._end:
+            return False
+        return super().__eq__(other)
+
+    def __ne__(self, other: object) -> bool:
+        equal = self.__eq__(other)
+        return equal if equal is NotImplemented else not equal
+
+    # A subtree is mutable, so neither it nor a run has a hash.
+    __hash__: ClassVar[None] = None  # type: ignore[assignment]
+
     def __reduce__(self) -> Tuple[Type[Run], Span]:
         return Run, (self.first, self.end, self.subtree)
 
@@ -167,11 +188,14 @@ class Session(Handle):
         place = checked_u64(first, "position")
         packed = Chunks(chunks).packed
         count = len(packed) // _CHUNK_SIZE
-        return interruptible(lambda: self._put(place, packed, count), count >= MANY_NODES, self)
+        return interruptible(lambda: self._put(place, packed, count), count > AT_ONCE, self)
 
     def _put(self, place: int, packed: bytes, count: int) -> int:
         out = ctypes.c_uint64()
         with self._locked():
+            new = self._put_in_pieces(place, packed, count) if count > AT_ONCE else None
+            if new is not None:
+                return new
             self._changes += 1
             status = calls_for(count, LONG_CHUNKS).yurewha_session_put(self._handle, place, packed, count, out)
             if status == STATUSES["YUREWHA_SESSION_OVERLAP"]:
@@ -182,6 +206,38 @@ class Session(Handle):
         if status:
             raise error_of(status)
         return out.value
+
+    def _put_in_pieces(self, place: int, packed: bytes, count: int) -> Optional[int]:
+        """Puts many chunks into an empty session in pieces, which takes less memory. Returns None, and changes nothing, if it can't.
+
+        They are put into a new session, which takes the place of this one once it has all of them. A signal handler that put something
+        between would put it into this one. So the main thread, which runs the handlers, puts them at once.
+        """
+        is_main, is_empty = threading.get_ident() == threading.main_thread().ident, not self.num_runs and not self._num_known()
+        if is_main or not is_empty:
+            return None
+        changes, other = self._changes, Session(keep_hashes=self.keeps_hashes)
+        new = other._put_each(place, packed)
+        if new is None or changes != self._changes:
+            return None
+        self._changes += 1
+        self._handle, other._handle = other._handle, self._handle
+        return new
+
+    def _put_each(self, place: int, packed: bytes) -> Optional[int]:
+        """Puts the pieces of some chunks, one after another. Returns how many hashes are new, or None if a piece is refused.
+
+        A session that keeps no hashes doesn't count those of several pieces. So they are counted here.
+        """
+        seen, new, out = None if self.keeps_hashes else HashIndex(), 0, ctypes.c_uint64()
+        for start in range(0, len(packed), AT_ONCE * _CHUNK_SIZE):
+            piece = packed[start:start + AT_ONCE * _CHUNK_SIZE]
+            count = len(piece) // _CHUNK_SIZE
+            if place > _MAX_U64 or calls_for(count, LONG_CHUNKS).yurewha_session_put(self._handle, place, piece, count, out):
+                return None
+            new += out.value if seen is None else seen.add_all(Chunks._of(piece).hashes)
+            place += count
+        return new
 
     def __contains__(self, hash_: HashLike) -> bool:
         """Returns whether the session knows a hash: whether a put had it, or it was kept. A session that keeps none knows none.
@@ -442,6 +498,19 @@ class Session(Handle):
         known = one.known_hashes()
         return len(known) == len(two.known_hashes()) and all(two.contains(known))
 
+    def __dask_tokenize__(self) -> Tuple[str, ...]:
+        saved = self.copy()
+        known = b"".join(sorted(raw for (raw,) in _EACH.iter_unpack(saved.known_hashes().packed)))
+        return token_of("Session", saved.to_json(hashes=False).encode("ascii"), known, bytes([saved.keeps_hashes]))
+
+    def _memory(self) -> int:
+        with self._locked():
+            count = self.num_runs
+            looked_at = [self.run(number * count // _LOOKED_AT).subtree for number in range(_LOOKED_AT)] if count > _LOOKED_AT else [
+                subtree for _, _, subtree in self._walk()]
+            nodes, levels = (sum(numbers) for numbers in zip((0, 0), *((it.num_nodes, it.num_levels) for it in looked_at)))
+            return memory_of_session(self._num_known(), count, len(looked_at), nodes, levels)
+
     def __copy__(self) -> Session:
         return self.copy()
 
@@ -505,6 +574,11 @@ class Session(Handle):
             if status:
                 raise error_of(status, "this session keeps no hashes")
         interruptible(work, count >= MANY_NODES, self)
+
+    def _keep_each(self, hashes: Hashes) -> None:
+        """Keeps hashes in pieces, which takes less memory. After an error some are kept, so nobody else may have the session."""
+        for start in range(0, len(hashes), AT_ONCE):
+            self.keep_hashes(hashes[start:start + AT_ONCE])
 
     @property
     def keeps_hashes(self) -> bool:
@@ -634,7 +708,7 @@ class Session(Handle):
         """
         runs, hashes, keeps = parts_of_body(read_whole(path, b"session"))
         session = Session._of_json(runs, keeps)
-        session.keep_hashes(hashes)
+        session._keep_each(hashes)
         return session
 
     @staticmethod
@@ -642,7 +716,7 @@ class Session(Handle):
         session = Session(keep_hashes=keeps)
         for place, run in enumerate(runs):
             session._push(f"run {place}", *run)
-        session.keep_hashes(hashes)
+        session._keep_each(Hashes(hashes))
         return session
 
     def __reduce__(self) -> Tuple[_Restore, Union[Tuple[Tuple[Span, ...], Hashes], Tuple[Tuple[Span, ...], Hashes, bool]]]:

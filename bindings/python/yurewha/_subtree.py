@@ -20,6 +20,7 @@ from typing import (
     final,
 )
 
+from ._accounts import memory_of_nodes, token_of
 from ._calls import string_at
 from ._chunks import Chunks, ChunksLike
 from ._declarations import STATUSES
@@ -431,7 +432,7 @@ class Subtree(Handle):
         if not isinstance(other, Subtree):
             return NotImplemented
         merged = self.copy()
-        merged._merge(other, None)
+        merged._merge(merged if other is self else other, None)  # another thread may have changed this one since
         return merged
 
     @staticmethod
@@ -448,20 +449,22 @@ class Subtree(Handle):
         6
         """
         items: List[Subtree] = []
-        seen = set()
         for item in ranges:
             if not isinstance(item, Subtree):
                 raise TypeError(but_got(f"range {len(items)} must be a Subtree", type(item).__name__))
-            # A repeated object is copied, because a call needs different handles.
-            items.append(item.copy() if id(item) in seen else item)
-            seen.add(id(item))
+            items.append(item)
         many = any(item._has_many_nodes() for item in items)
         return interruptible(lambda: Subtree._merged_all(items), many, *items)
 
     @staticmethod
-    def _merged_all(items: List[Subtree]) -> Subtree:
-        merged = Subtree._empty()
-        with all_locked(items):
+    def _merged_all(given: List[Subtree]) -> Subtree:
+        merged, seen = Subtree._empty(), set()
+        items: List[Subtree] = []
+        with all_locked(given):
+            # A repeated object is copied, because a call needs different handles.
+            for item in given:
+                items.append(item._copied() if id(item) in seen else item)
+                seen.add(id(item))
             nodes = sum(item._nodes() for item in items)
             handles = (CSubtree * len(items))()
             # The handles move into one array and stay there. At each moment the object has one of the two places, even if
@@ -515,6 +518,13 @@ class Subtree(Handle):
         if status:
             raise error_of(status)
         return equal.value
+
+    def __dask_tokenize__(self) -> Tuple[str, ...]:
+        at_start, levels, nodes, at_end = self.to_flat()
+        return token_of("Subtree", bytes([at_start, at_end]), packed_levels(levels), nodes.packed)
+
+    def _memory(self) -> int:
+        return memory_of_nodes(self.num_nodes, self.num_levels)
 
     def to_json(self) -> str:
         """Returns the subtree as compact JSON text.
@@ -629,14 +639,15 @@ class Subtree(Handle):
 
     def __repr__(self) -> str:
         try:
-            flat = self.to_flat()
+            one = self.copy()
+            flat, size = one._to_flat(), one.total_size
         except YurewhaError:
             return "<yurewha.Subtree that can't be read>"
         ends = _ENDS[flat.at_start, flat.at_end]
         shown = [str(level) for level in flat.levels]
         if len(shown) > 8:
             shown[4:-4] = [".."]
-        return f"<yurewha.Subtree {ends}, levels {' '.join(shown)}, {counted(self.total_size, 'byte')}>"
+        return f"<yurewha.Subtree {ends}, levels {' '.join(shown)}, {counted(size, 'byte')}>"
 
     # ---- Pictures
 

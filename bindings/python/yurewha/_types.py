@@ -2,7 +2,10 @@
 
 from __future__ import annotations
 
+import sys
 from typing import TYPE_CHECKING, Iterable, Iterator, Mapping, Union
+
+from ._errors import InvalidArguments
 
 if TYPE_CHECKING:
     from _typeshed import ReadableBuffer, WriteableBuffer
@@ -44,7 +47,26 @@ else:
 def view_of(data: object) -> memoryview:
     """Returns a view of an object with the buffer protocol. Raises `TypeError` if the object doesn't have it.
 
+    Raises `InvalidArguments` if it is, or shows, a masked array of NumPy that has a masked item.
+
     >>> view_of(b"ab").nbytes
     2
     """
-    return memoryview(data)  # type: ignore[arg-type]
+    view = memoryview(data)  # type: ignore[arg-type]
+    if type(view.obj) is not bytes:
+        check_mask(view.obj)
+    return view
+
+
+def check_mask(array: object) -> None:
+    """Raises `InvalidArguments` if an object is a masked array of NumPy that has a masked item, under which there may be anything.
+
+    >>> check_mask(b"ab")
+    """
+    masked = sys.modules.get("numpy.ma")  # nobody has such an array before it is imported
+    if masked is None or not isinstance(array, masked.MaskedArray):
+        return
+    mask = masked.getmaskarray(array)
+    place = mask.tobytes().find(1)
+    if place >= 0:
+        raise InvalidArguments(f"item {place * len(mask) // mask.nbytes if mask.ndim else 0} of the array is masked")

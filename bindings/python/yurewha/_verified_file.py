@@ -47,8 +47,8 @@ class VerifiedFile(CheckedParts, _Raw):  # type: ignore[misc]
       `io.BufferedReader(file, 1 << 20)` do so for a reader of small pieces or of lines, or give `read_ahead`.
     - With `read_ahead`, a read that begins where the last one ended has up to so many bytes after it fetched and checked meanwhile,
       in up to nine threads. So `fetch` and `prove` must then be callable by several threads at once.
-    - If a read fails, what it had checked before is kept, whatever the `cache_size`, until a read of it succeeds. So reading again
-      fetches the rest alone, also if an answer was cut off in the middle.
+    - If a read fails, what it had checked before is kept, whatever the `cache_size`, until a read that begins there goes beyond it. So
+      reading again fetches the rest alone, also if an answer was cut off in the middle.
     - A proof is refused if its chunks go more than `chunk_limit` bytes beyond what is asked for. So a server can't make a reader
       fetch a whole file for one byte. So is one that has more than `proof_limit` bytes in the form of `RangeProof.to_bytes`. That is 16
       MiB, as for `RangeProof.from_json`, which is enough for pieces of 16 MiB unless the chunks have less than 40 bytes.

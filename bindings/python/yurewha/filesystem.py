@@ -3,6 +3,9 @@
 fsspec knows it as `yurewha`, so that pandas, dask, zarr and others read through it:
 
     pandas.read_csv("yurewha://part.csv", storage_options={"hashes": hashes, "fetch": fetch, "prove": prove})
+
+If the package isn't installed, fsspec knows it once this module was imported, or the package after fsspec: write `import
+yurewha.filesystem` first.
 """
 
 from __future__ import annotations
@@ -10,10 +13,11 @@ from __future__ import annotations
 import errno
 import io
 import os
+import uuid
 from concurrent.futures import ThreadPoolExecutor
 from typing import BinaryIO, Callable, Dict, Iterable, List, Mapping, NamedTuple, Optional, Sequence, SupportsIndex, Tuple, Union, cast
 
-from fsspec import AbstractFileSystem  # type: ignore[import]
+from fsspec import AbstractFileSystem, register_implementation  # type: ignore[import]
 
 from ._checked_parts import hash_of
 from ._errors import InvalidArguments, but_got
@@ -25,6 +29,7 @@ from ._verified_file import VerifiedFile
 
 __all__ = ["VerifiedFileSystem"]
 
+_PROTOCOL = "yurewha"
 #: How many bytes a reader of an opened file fetches at once, if it isn't told another number.
 _BLOCK = 1 << 20
 #: How many bytes between two ranges are fetched with them. A request takes longer than a chunk.
@@ -53,7 +58,8 @@ class VerifiedFileSystem(AbstractFileSystem):  # type: ignore[misc]
     `cat_ranges` reads at once.
 
     What is wrong raises `ProofMismatch`, whose `path` says which file it is. A path without a hash raises `FileNotFoundError`, and
-    writing raises `io.UnsupportedOperation`.
+    writing raises `io.UnsupportedOperation`. Each call makes a new file system, which equals no other one, because fsspec would compare
+    two by the text of their arguments, and the text of a `fetch` doesn't say everything.
 
     >>> from yurewha import HashTree, data_hash
     >>> tree = HashTree([(data_hash(b"abc"), 3)])
@@ -64,8 +70,10 @@ class VerifiedFileSystem(AbstractFileSystem):  # type: ignore[misc]
     (b'bc', ['a/b.txt'], 3)
     """
 
-    protocol = "yurewha"
+    protocol = _PROTOCOL
     root_marker = ""
+    #: Whether fsspec returns an earlier file system in place of a new one.
+    cachable = False
 
     def __init__(
         self,
@@ -90,6 +98,12 @@ class VerifiedFileSystem(AbstractFileSystem):  # type: ignore[misc]
         self._cache_size, self._chunk_limit, self._proof_limit, self._read_ahead = cache_size, chunk_limit, proof_limit, read_ahead
         self._threads = checked_threads(threads)
         self._files: Dict[str, VerifiedFile] = {}
+        self._own_token = uuid.uuid4().hex
+
+    @property
+    def _fs_token(self) -> str:
+        """What fsspec compares, and Dask takes for the value."""
+        return self._own_token
 
     # ---- Files by their paths
 
@@ -251,3 +265,6 @@ def _grouped(ranges: Iterable[_Range], gap: int) -> List[List[_Range]]:
             groups.append([range_])
             stop = range_.stop
     return groups
+
+
+register_implementation(_PROTOCOL, VerifiedFileSystem, clobber=True)

@@ -42,8 +42,8 @@ pub enum CoreError {
     /// A JSON value doesn't describe a subtree. The number is the lowest rule, from 1 to 13, that the value breaks.
     /// [`from_json`](crate::merklehash::MerkleHashSubtree::from_json) lists the rules.
     ///
-    /// Rule 9 is broken by some subtrees that `xet-core-structures` saves after it has merged a range that
-    /// is marked at its start with the next one. Make such a subtree anew from the list of its chunks.
+    /// Subtrees that `xet-core-structures` saves after it has merged ranges may break rule 9 if the first range is marked
+    /// at its start, and rule 12 if it isn't. Make such a subtree anew from the list of its chunks.
     InvalidJson(u8),
     /// A JSON value, flat lists, or bytes don't describe a range proof. The number is the lowest rule, from 1 to 8, that they
     /// break. [`from_json`](crate::own::RangeProof::from_json) lists the rules.
@@ -51,23 +51,6 @@ pub enum CoreError {
     /// A JSON value doesn't describe a session. The number is the lowest rule, from 1 to 7 but 5, that it breaks.
     /// [`from_json`](crate::own::Session::from_json) lists the rules.
     InvalidSession(u8),
-}
-
-impl CoreError {
-    /// Makes an [`InvalidProof`](Self::InvalidProof), whose name this was. A pattern needs the new name.
-    ///
-    /// ```
-    /// # #![allow(deprecated)]
-    /// use yurewha::error::CoreError;
-    ///
-    /// assert_eq!(CoreError::InvalidProofJson(5), CoreError::InvalidProof(5));
-    /// ```
-    #[deprecated(since = "1.1.0", note = "use `InvalidProof`, as in Python and JavaScript")]
-    #[allow(non_snake_case)]
-    #[must_use]
-    pub const fn InvalidProofJson(rule: u8) -> Self {
-        CoreError::InvalidProof(rule)
-    }
 }
 
 /// The result of a call, or why it failed.
@@ -98,16 +81,17 @@ impl fmt::Display for BrokenRule {
             1..=13 => write!(f, "{}", StatusText::of(ffi::YUREWHA_RULE + u32::from(self.0)))?,
             other => write!(f, "rule {other}")?,
         }
-        if self.0 == 9 {
-            f.write_str(OF_MERGES_FROM_THE_START)?;
+        if matches!(self.0, 9 | 12) {
+            f.write_str(OF_XET_CORE)?;
         }
         Ok(())
     }
 }
 
-// Where most values that break rule 9 come from.
-const OF_MERGES_FROM_THE_START: &str = ". xet-core-structures leaves some when it merges from the start; make the \
-    subtree anew from the list of its chunks";
+// Where most values that break rule 9 or 12 come from.
+const OF_XET_CORE: &str =
+    ". xet-core-structures leaves some when it merges ranges; make the subtree anew from the list \
+    of its chunks";
 
 // The text of a rule of range proofs that a value breaks.
 struct BrokenProofRule(u8);
@@ -184,13 +168,17 @@ mod tests {
         }
     }
 
-    // Rule 9 also says what to do.
+    // The rules 9 and 12 also say what to do.
     #[test]
     fn each_broken_rule_has_its_text() {
         for rule in 1..=13 {
             let error = CoreError::InvalidJson(rule).to_string();
             assert!(error.starts_with(&format!("invalid JSON: rule {rule}: ")), "{error}");
-            assert_eq!(error.contains("make the subtree anew"), rule == 9, "{error}");
+            assert_eq!(
+                error.contains("make the subtree anew"),
+                matches!(rule, 9 | 12),
+                "{error}"
+            );
         }
         assert_eq!(CoreError::InvalidJson(14).to_string(), "invalid JSON: rule 14");
         for rule in 1..=8 {

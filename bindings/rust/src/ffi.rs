@@ -64,6 +64,13 @@ pub struct yurewha_hasher {
 }
 
 #[repr(C)]
+#[derive(Clone, Copy, Default)]
+pub struct yurewha_chunker {
+    pub size: usize,
+    pub gear: u64,
+}
+
+#[repr(C)]
 pub struct yurewha_subtree {
     pub at: *mut u8,
 }
@@ -95,6 +102,11 @@ pub struct yurewha_reader {
 
 #[repr(C)]
 pub struct yurewha_hash_index {
+    pub at: *mut u8,
+}
+
+#[repr(C)]
+pub struct yurewha_file_hasher {
     pub at: *mut u8,
 }
 
@@ -152,6 +164,13 @@ impl Default for yurewha_hash_index {
     }
 }
 
+impl Default for yurewha_file_hasher {
+    // The empty handle.
+    fn default() -> Self {
+        yurewha_file_hasher { at: ptr::null_mut() }
+    }
+}
+
 const fn assert_layout<T>(size: usize, align: usize) {
     assert!(size_of::<T>() == size && align_of::<T>() == align);
 }
@@ -163,6 +182,7 @@ const _: () = {
     assert_layout::<yurewha_chunk>(40, 8);
     assert_layout::<yurewha_level>(16, 8);
     assert_layout::<yurewha_hasher>(2048, 8);
+    assert_layout::<yurewha_chunker>(16, 8);
     assert_layout::<yurewha_subtree>(8, 8);
     assert_layout::<yurewha_session>(8, 8);
     assert_layout::<yurewha_hash_tree>(8, 8);
@@ -170,6 +190,7 @@ const _: () = {
     assert_layout::<yurewha_part>(8, 8);
     assert_layout::<yurewha_reader>(8, 8);
     assert_layout::<yurewha_hash_index>(8, 8);
+    assert_layout::<yurewha_file_hasher>(8, 8);
 };
 
 extern "C" {
@@ -213,6 +234,24 @@ extern "C" {
     pub fn yurewha_hasher_count(hasher: *const yurewha_hasher) -> u64;
     pub fn yurewha_hasher_update(hasher: *mut yurewha_hasher, piece: *const u8, length: usize) -> yurewha_status;
     pub fn yurewha_hasher_finalize(hasher: *const yurewha_hasher, hash: *mut yurewha_hash);
+    pub fn yurewha_chunker_begin(chunker: *mut yurewha_chunker);
+    pub fn yurewha_chunker_next_boundary(chunker: *mut yurewha_chunker, piece: *const u8, length: usize) -> u64;
+    pub fn yurewha_chunker_taken(chunker: *const yurewha_chunker) -> u64;
+    pub fn yurewha_file_hasher_new(hasher: *mut yurewha_file_hasher) -> yurewha_status;
+    pub fn yurewha_file_hasher_update(
+        hasher: *mut yurewha_file_hasher,
+        piece: *const u8,
+        length: usize,
+    ) -> yurewha_status;
+    pub fn yurewha_file_hasher_size(hasher: *mut yurewha_file_hasher, size: *mut u64) -> yurewha_status;
+    pub fn yurewha_file_hasher_root(hasher: *mut yurewha_file_hasher, root: *mut yurewha_hash) -> yurewha_status;
+    pub fn yurewha_file_hasher_finish(hasher: *mut yurewha_file_hasher, hash: *mut yurewha_hash) -> yurewha_status;
+    pub fn yurewha_file_hasher_finish_with_salt(
+        hasher: *mut yurewha_file_hasher,
+        salt: *const yurewha_bytes,
+        hash: *mut yurewha_hash,
+    ) -> yurewha_status;
+    pub fn yurewha_file_hasher_free(hasher: *mut yurewha_file_hasher);
     pub fn yurewha_xorb_hash(chunks: *const yurewha_chunk, count: usize, root: *mut yurewha_hash) -> yurewha_status;
     pub fn yurewha_file_hash(chunks: *const yurewha_chunk, count: usize, hash: *mut yurewha_hash) -> yurewha_status;
     pub fn yurewha_file_hash_with_salt(
@@ -540,18 +579,6 @@ extern "C" {
         level_count: usize,
         nodes: *const yurewha_chunk,
         node_count: usize,
-        file_hash: *const yurewha_hash,
-        salt: *const yurewha_bytes,
-        from: u64,
-        to: u64,
-        beyond: u64,
-        begin: *mut u64,
-        end: *mut u64,
-        part: *mut yurewha_part,
-    ) -> yurewha_status;
-    pub fn yurewha_part_open_json(
-        text: *const c_char,
-        length: usize,
         file_hash: *const yurewha_hash,
         salt: *const yurewha_bytes,
         from: u64,

@@ -38,6 +38,10 @@ impl Handle for ffi::yurewha_hash_index {
     const FREE: unsafe extern "C" fn(*mut Self) = ffi::yurewha_hash_index_free;
 }
 
+impl Handle for ffi::yurewha_file_hasher {
+    const FREE: unsafe extern "C" fn(*mut Self) = ffi::yurewha_file_hasher_free;
+}
+
 // SAFETY: a handle is a pointer to memory of `malloc` that only one value owns. Nothing of the library is bound to a
 // thread, and any thread may call `free`.
 unsafe impl Send for ffi::yurewha_subtree {}
@@ -59,6 +63,9 @@ unsafe impl Send for ffi::yurewha_reader {}
 
 // SAFETY: as above.
 unsafe impl Send for ffi::yurewha_hash_index {}
+
+// SAFETY: as above.
+unsafe impl Send for ffi::yurewha_file_hasher {}
 
 /// A handle with one owner, which frees it, to a value that calls change.
 ///

@@ -1,5 +1,5 @@
 //! The hashes by which the Hugging Face Xet store names chunks and files. Ranges of chunks that were hashed separately
-//! can be merged without their chunks. Nothing here cuts files into chunks.
+//! can be merged without their chunks. [`own::hash_file`] returns the hash of a file.
 //!
 //! The module [`merklehash`] has the calls and paths of the module with that name in the crate `xet-core-structures`
 //! 1.5.2. It calls a library in which each function is proved to meet its contract. Most code for that crate needs only

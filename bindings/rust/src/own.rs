@@ -1,5 +1,5 @@
-//! What the crate `xet-core-structures` doesn't have: proofs of parts of a file, sessions, indexes of hashes, a hasher
-//! that takes a message in pieces, hashing on several threads, and calls that return a
+//! What the crate `xet-core-structures` doesn't have: files cut into chunks and hashed, on several threads, proofs of parts of
+//! a file, sessions, indexes of hashes, a hasher that takes a message in pieces, and calls that return a
 //! [`Result`](crate::error::Result) instead of a panic.
 //!
 //! They aren't in [`merklehash`](crate::merklehash), so that a glob of that module brings in only the names of that
@@ -77,6 +77,8 @@
 
 use crate::merklehash::MerkleHash;
 
+mod chunker;
+mod file_hasher;
 mod hash_index;
 mod hasher;
 mod hex_text;
@@ -87,12 +89,14 @@ mod session;
 mod stable_points;
 
 pub use crate::merklehash::data_hash::errors::HashTextError;
+pub use chunker::Chunker;
+pub use file_hasher::FileHasher;
 pub use hash_index::HashIndex;
 pub use hasher::Hasher;
 pub use hex_text::{parse_hex, HexError};
 pub use range_proof::{Difference, HashTree, OpenError, OpenFault, OpenedRange, RangeProof};
 pub use range_proof::{OtherFile, PartFault, VerifiedReader, WantedPart};
-pub use reading::hash_chunks;
+pub use reading::{chunks_of, hash_chunks, hash_file, hash_reader};
 pub use roots::{try_file_hash, try_file_hash_with_salt, try_xorb_hash};
 pub use session::{Session, SessionFault};
 pub use stable_points::{try_find_stable_end, try_find_stable_start};

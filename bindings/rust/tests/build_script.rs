@@ -106,6 +106,8 @@ fn compiled(output: &Output) -> Vec<String> {
     for path in &paths {
         assert!(printed.contains(&format!("cargo:rerun-if-changed={path}\n")));
     }
+    let header = "cargo:rerun-if-changed=dist/assembly.h\n";
+    assert_eq!(printed.contains(header), !paths.is_empty());
     let names = paths.iter().map(|path| Path::new(path).file_name().unwrap());
     names.map(|name| name.to_str().unwrap().to_owned()).collect()
 }
@@ -113,21 +115,19 @@ fn compiled(output: &Output) -> Vec<String> {
 #[test]
 fn all_levels_of_the_targets_processor_are_compiled() {
     let unproved = ["processor_level.c", "heap.c"];
-    let assembly = ["x86-64.s", "x86-64-v2.s", "x86-64-v3.s", "x86-64-v4.s"];
+    let assembly = ["x86-64.S", "x86-64-v2.S", "x86-64-v3.S", "x86-64-v4.S"];
     let x86_64 = [&unproved[..], &assembly].concat();
-    let aarch64 = [&unproved[..], &["aarch64.s"]].concat();
-    let windows = assembly.map(|name| format!("windows-{name}"));
+    let aarch64 = [&unproved[..], &["aarch64.S"]].concat();
+    let windows = assembly.map(|name| format!("windows-{}", name.replace('S', "s")));
     let windows = [&unproved[..], &windows.each_ref().map(String::as_str)].concat();
-    let macos = assembly.map(|name| format!("macos-{name}"));
-    let macos = [&unproved[..], &macos.each_ref().map(String::as_str)].concat();
     for (target, files) in [
         ("x86_64-unknown-linux-gnu", &x86_64),
         ("x86_64-unknown-linux-musl", &x86_64),
         ("aarch64-unknown-linux-gnu", &aarch64),
         ("aarch64-unknown-linux-musl", &aarch64),
         ("x86_64-pc-windows-gnu", &windows),
-        ("x86_64-apple-darwin", &macos),
-        ("aarch64-apple-darwin", &[&unproved[..], &["macos-aarch64.s"]].concat()),
+        ("x86_64-apple-darwin", &x86_64),
+        ("aarch64-apple-darwin", &aarch64),
     ] {
         let output = run(target, &[]);
         assert!(output.status.success(), "{output:?}");

@@ -7,7 +7,7 @@
 use std::cell::Cell;
 use std::ffi::{c_int, c_void};
 use std::fmt::Debug;
-use std::io;
+use std::io::{self, ErrorKind, Read, Write};
 use std::num::NonZeroUsize;
 use std::panic::{self, catch_unwind, AssertUnwindSafe};
 use std::ptr;
@@ -21,9 +21,9 @@ use yurewha::merklehash::{
     MerkleHashSubtree, PassThroughHashMap,
 };
 use yurewha::own::{
-    self, try_file_hash, try_file_hash_with_salt, try_find_stable_end, try_find_stable_start, try_xorb_hash, HashIndex,
-    HashTextError, HashTree, Node, OpenError, OpenFault, OpenedRange, PartFault, RangeProof, Session, SessionFault,
-    VerifiedReader,
+    self, try_file_hash, try_file_hash_with_salt, try_find_stable_end, try_find_stable_start, try_xorb_hash, Chunker,
+    FileHasher, HashIndex, HashTextError, HashTree, Node, OpenError, OpenFault, OpenedRange, PartFault, RangeProof,
+    Session, SessionFault, VerifiedReader,
 };
 
 extern "C" {
@@ -40,6 +40,8 @@ thread_local! {
     static REQUESTS: Cell<u64> = const { Cell::new(0) };
     // The size of the greatest request of this thread that was counted.
     static GREATEST: Cell<usize> = const { Cell::new(0) };
+    // How many requests of this thread were as great as a buffer of a file.
+    static OF_FILES: Cell<usize> = const { Cell::new(0) };
     // How many more blocks this thread took by `malloc` than it freed.
     static BLOCKS: Cell<i64> = const { Cell::new(0) };
     // How many requests of this thread come before the one in which it waits for another thread. By default it
@@ -64,13 +66,16 @@ fn meet() {
     HAS_MET.set(MEETING.load(Ordering::SeqCst) == 2);
 }
 
-// Whether threads of `hash_chunks` are held up in their requests.
+// Whether threads of `hash_chunks` and `hash_reader` are held up in their requests.
 static ARE_HELD_UP: AtomicBool = AtomicBool::new(false);
 // How many bytes a chunk has meanwhile, and how many buffers of that length there were.
 const HELD_LENGTH: usize = 4321;
 static BUFFERS: AtomicUsize = AtomicUsize::new(0);
 
-// Whether this is a thread of `hash_chunks`, by its name.
+// How many bytes of a file a buffer has.
+const OF_A_FILE: usize = 1 << 20;
+
+// Whether this is a thread of `hash_chunks` or `hash_reader`, by its name.
 fn hashes_chunks() -> bool {
     const PR_GET_NAME: c_int = 16;
     let mut name = [0; 16];
@@ -98,6 +103,7 @@ fn is_refused(size: usize) -> bool {
     }
     REQUESTS.set(REQUESTS.get() + 1);
     GREATEST.set(GREATEST.get().max(size));
+    OF_FILES.set(OF_FILES.get() + usize::from(size == OF_A_FILE));
     let before = BEFORE.get();
     BEFORE.set(before.and_then(|before| before.checked_sub(1)));
     before == Some(0)
@@ -460,6 +466,109 @@ fn indexes_of_hashes_are_refused() {
     assert_eq!(index.len(), 1000);
 }
 
+// That a refused call takes nothing of a piece, and that the same call takes it later.
+#[test]
+fn file_hashers_are_refused() {
+    assert_each_refusal(NO_MEMORY, FileHasher::try_new);
+    let pattern = [0, 148, 143].repeat(2731 * 5000);
+    let wanted = file_hash(&vec![(compute_data_hash(&pattern[..8193]), 8193); 5000]);
+    let mut hasher = FileHasher::new();
+    let mut refusals = 0;
+    for piece in pattern.chunks(8_000_000) {
+        let before = hasher.size();
+        for request in 0.. {
+            let (answer, refused) = with_refusal(request, || hasher.update(piece).map(drop));
+            assert_eq!(answer, if refused { Err(NO_MEMORY) } else { Ok(()) });
+            if !refused {
+                break;
+            }
+            assert_eq!(hasher.size(), before);
+            refusals += 1;
+        }
+    }
+    assert!(refusals > 2, "{refusals}");
+    assert_each_refusal(NO_MEMORY, || hasher.root());
+    assert_each_refusal(NO_MEMORY, || hasher.file_hash());
+    assert_each_refusal(NO_MEMORY, || hasher.file_hash_with_salt(&[7; 32]));
+    assert_eq!(hasher.file_hash(), Ok(wanted));
+    let mut hasher = FileHasher::new();
+    let (answer, refused) = with_refusal(0, || hasher.write(&pattern));
+    assert!(refused);
+    assert_eq!(answer.unwrap_err().kind(), ErrorKind::OutOfMemory);
+}
+
+#[test]
+fn chunks_of_a_file_are_refused() {
+    // Its first buffer ends in a chunk.
+    let file = [0, 148, 143].repeat(400_000);
+    assert_each_refusal(ErrorKind::OutOfMemory, || {
+        let (mut chunks, mut count) = (own::chunks_of(&file[..]), 0);
+        let refused = chunks.find_map(|chunk| {
+            count += usize::from(chunk.is_ok());
+            chunk.err()
+        });
+        assert!(chunks.next().is_none());
+        refused.map_or(Ok(count), |error| Err(error.kind()))
+    });
+    let hashed = || own::hash_reader(&file[..], NonZeroUsize::MIN).map_err(|error| error.kind());
+    let wanted = hashed().unwrap();
+    // All that an empty file needs comes before this one is read. It can also be hashed without a buffer for what comes next.
+    let (first, mut refusals) = (requests(|| _ = own::hash_reader(io::empty(), NonZeroUsize::MIN)), 0);
+    for before in first.. {
+        match with_refusal(before, hashed) {
+            (Ok(hash), refused) => {
+                assert_eq!(hash, wanted);
+                if !refused {
+                    break;
+                }
+            }
+            (Err(kind), _) => {
+                assert_eq!(kind, ErrorKind::OutOfMemory);
+                refusals += 1;
+            }
+        }
+    }
+    assert!(refusals > 2, "{refusals}");
+}
+
+// A reader of so many chunks of 8193 bytes, each of which begins with its number.
+struct Numbered {
+    chunk: Vec<u8>,
+    number: u64,
+    place: usize,
+}
+
+impl Read for Numbered {
+    fn read(&mut self, room: &mut [u8]) -> io::Result<usize> {
+        if self.place == self.chunk.len() {
+            (self.number, self.place) = (self.number - 1, 0);
+        }
+        if self.number == 0 {
+            return Ok(0);
+        }
+        self.chunk[..8].copy_from_slice(&self.number.to_le_bytes());
+        let count = (&self.chunk[self.place..]).read(room)?;
+        self.place += count;
+        Ok(count)
+    }
+}
+
+// A list of their hashes would take 1.28 million bytes.
+#[test]
+fn memory_for_a_file_does_not_grow_with_it() {
+    let file = || Numbered {
+        chunk: [0, 148, 143].repeat(2731),
+        number: 40_000,
+        place: 0,
+    };
+    let count = |count: usize, _| count + 1;
+    let greatest = greatest_request(|| assert_eq!(own::chunks_of(file()).fold(0, count), 40_000));
+    // Its one buffer is used again.
+    assert_eq!((greatest, OF_FILES.replace(0)), (OF_A_FILE, 1));
+    let greatest = greatest_request(|| _ = own::hash_reader(file(), NonZeroUsize::MIN).unwrap());
+    assert_eq!((greatest, OF_FILES.get()), (OF_A_FILE, 1));
+}
+
 #[test]
 fn an_index_takes_room_for_the_entries_that_come() {
     let mut index = HashIndex::new();
@@ -536,6 +645,10 @@ fn a_value_that_is_dropped_frees_its_memory() {
         index.insert([(DataHash::marker(), 7)]).unwrap();
         assert_eq!(index.clone().get(&DataHash::marker()), Some(7));
         assert_eq!(index.entries().unwrap().len(), 61);
+        let mut file = FileHasher::new();
+        file.write_all(&[0, 148, 143].repeat(6000)).unwrap();
+        assert_eq!(own::chunks_of(&[7; 1000][..]).count(), 1);
+        assert!(own::hash_reader(&[7; 1000][..], NonZeroUsize::MIN).unwrap() != file.file_hash().unwrap());
         let reader = VerifiedReader::new(&tree.file_hash(), 1 << 20).unwrap();
         let mut part = reader.open(&tree.proof(7..9).unwrap(), 7..9, 0).unwrap();
         assert!(part.check(b"??").is_none() && reader.take(part).is_ok());
@@ -600,6 +713,11 @@ fn calls_without_a_result_name_call_and_cause_in_a_panic() {
     index.insert(nodes.iter().copied()).unwrap();
     assert_eq!(panic_of(|| index.clone()), "HashIndex::clone: out of memory");
     assert_eq!(panic_of(|| index == index), "HashIndex::eq: out of memory");
+    assert_eq!(panic_of(|| drop(FileHasher::new())), "FileHasher::new: out of memory");
+    assert_eq!(
+        panic_of(|| drop(FileHasher::default())),
+        "FileHasher::new: out of memory"
+    );
     assert_eq!(panic_of(|| session.range(0)), "Session::range: out of memory");
     assert_eq!(panic_of(|| session.run_from(0)), "Session::run_from: out of memory");
     assert_eq!(panic_of(|| session.clone()), "Session::clone: out of memory");
@@ -653,6 +771,15 @@ fn buffers_are_two_for_each_other_thread_and_one() {
         // Each other thread hashes one, as many wait, and this one has one.
         let buffers = BUFFERS.load(Ordering::SeqCst);
         assert!((1..=most).contains(&buffers), "{buffers}");
+        OF_FILES.set(0);
+        ARE_HELD_UP.store(true, Ordering::SeqCst);
+        let zeros = io::repeat(0).take(50 * OF_A_FILE as u64);
+        let hash = own::hash_reader(zeros, NonZeroUsize::new(threads).unwrap()).unwrap();
+        // Each chunk is as long as any may be.
+        assert_eq!(hash, file_hash(&[(compute_data_hash(&[0; 1 << 17]), 1 << 17); 400]));
+        let held_up = ARE_HELD_UP.swap(false, Ordering::SeqCst);
+        assert_eq!(held_up, threads == 1, "no other thread hashed a file");
+        assert!((1..=most).contains(&OF_FILES.get()), "{}", OF_FILES.get());
     }
 }
 
@@ -693,6 +820,7 @@ fn other_calls_take_no_memory() {
     let text = DataHash::marker().hex();
     let reader = VerifiedReader::new(&file_hash(&chunks), 1 << 20).unwrap();
     let mut part = reader.open(range.proof(), 8..10, 1 << 20).unwrap();
+    let file = FileHasher::new();
     let taken = requests(|| {
         let hash = DataHash::random_from_seed(1);
         let bytes: [u8; 32] = hash.into();
@@ -721,6 +849,8 @@ fn other_calls_take_no_memory() {
         assert!(part.check_only(b"another").is_some() && part.checked() == (1, 14) && part.file_size() == 25);
         assert!(reader.needs(8..10, 1) == Some(8..9) && reader.size().is_none() && reader.counted() == 0);
         reader.keep_at_most(1 << 21);
+        let mut chunker = Chunker::new();
+        assert!(chunker.next_boundary(&bytes).is_none() && chunker.taken() == 32 && file.size() == 0);
     });
     assert_eq!(taken, 0);
 }

@@ -11,7 +11,7 @@ use yurewha::error::CoreError;
 use yurewha::merklehash::{compute_data_hash, compute_internal_node_hash, DataHash, MerkleHashSubtree};
 use yurewha::merklehash::{find_stable_end, find_stable_start};
 use yurewha::own::{try_file_hash, try_file_hash_with_salt, try_xorb_hash, Hasher, Node, Session, SessionFault};
-use yurewha::own::{HashIndex, HashTree, OpenError, OpenedRange, RangeProof};
+use yurewha::own::{Chunker, FileHasher, HashIndex, HashTree, OpenError, OpenedRange, RangeProof};
 
 // ---- Calls: what each call of the library is here
 
@@ -46,6 +46,7 @@ fn call(name: &str, a: &Arguments) -> Answer {
         _ => match name.split('_').next() {
             Some("subtree") => subtree_call(name, a),
             Some("session") => session_call(name, a),
+            Some("chunker" | "file") => file_call(name, a),
             _ if name.starts_with("hash_index_") => index_call(name, a),
             _ => proof_call(name, a),
         },
@@ -194,6 +195,23 @@ fn index_call(name: &str, a: &Arguments) -> Answer {
             .map(|(hash, number)| json!([hash.hex(), number]))
             .collect::<Value>()),
         "hash_index_len" => is(index().borrow().len()),
+        _ => panic!("the call {name}"),
+    }
+}
+
+fn file_call(name: &str, a: &Arguments) -> Answer {
+    let chunker = || a.of::<Chunker>(0);
+    let hasher = || a.of::<FileHasher>(0);
+    match name {
+        "chunker_begin" => made(Chunker::new()),
+        "chunker_next_boundary" => is(chunker().borrow_mut().next_boundary(&a.data(1))),
+        "chunker_taken" => is(chunker().borrow().taken()),
+        "file_hasher_new" => made(FileHasher::try_new()?),
+        "file_hasher_update" => nothing(hasher().borrow_mut().update(&a.data(1))?),
+        "file_hasher_size" => is(hasher().borrow().size()),
+        "file_hasher_root" => is(hasher().borrow().root()?.hex()),
+        "file_hasher_finish" => is(hasher().borrow().file_hash()?.hex()),
+        "file_hasher_finish_with_salt" => is(hasher().borrow().file_hash_with_salt(&a.bytes(1))?.hex()),
         _ => panic!("the call {name}"),
     }
 }
@@ -477,9 +495,16 @@ impl Arguments<'_> {
     }
 
     fn data(&self, k: usize) -> Vec<u8> {
-        match self.given[k]["message"].as_array() {
-            Some(part) => (number(&part[0])..number(&part[1])).map(|i| (i % 251) as u8).collect(),
-            None => unhex(self.text(k)),
+        let told = &self.given[k];
+        if let Some(text) = told.as_str() {
+            return unhex(text);
+        }
+        if let Some(repeated) = told["repeated"].as_str().map(unhex) {
+            return part_of(&told["part"]).map(|i| repeated[i % repeated.len()]).collect();
+        }
+        match told["mixed"].is_array() {
+            true => mixed_bytes(part_of(&told["mixed"])),
+            false => part_of(&told["message"]).map(|i| (i % 251) as u8).collect(),
         }
     }
 
@@ -489,6 +514,23 @@ impl Arguments<'_> {
             None => chunks(&self.given[k]),
         }
     }
+}
+
+fn part_of(ends: &Value) -> Range<usize> {
+    number(&ends[0]) as usize..number(&ends[1]) as usize
+}
+
+// A part of the numbers of SplitMix64 from the seed 0 on, each with its lowest byte first.
+fn mixed_bytes(part: Range<usize>) -> Vec<u8> {
+    let mut state = 0u64;
+    let mut made = Vec::new();
+    while made.len() < part.end {
+        state = state.wrapping_add(0x9E37_79B9_7F4A_7C15);
+        let number = (state ^ (state >> 30)).wrapping_mul(0xBF58_476D_1CE4_E5B9);
+        let number = (number ^ (number >> 27)).wrapping_mul(0x94D0_49BB_1331_11EB);
+        made.extend_from_slice(&(number ^ (number >> 31)).to_le_bytes());
+    }
+    made[part].to_vec()
 }
 
 fn text(it: &Value) -> &str {
@@ -703,6 +745,7 @@ scripts! {
     json_of_sessions "session_json.jsonl"
     proofs_of_parts_of_files "range_proofs.jsonl"
     numbers_of_hashes "hash_indexes.jsonl"
+    files "files.jsonl"
     lists_of_the_upstream "upstream.jsonl"
 }
 
@@ -722,15 +765,4 @@ fn each_call_that_the_crate_has_is_made() {
     let names = |head: Value| head["calls"].as_object().unwrap().keys().cloned().collect::<Vec<_>>();
     let called: BTreeSet<String> = heads.flat_map(names).collect();
     assert_eq!(here, called.iter().collect::<Vec<_>>());
-}
-
-// Not of vectors, but of the repository, too: the manifest has the licences of the code that the crate compiles.
-#[test]
-fn the_licences_are_those_of_the_library() {
-    let path = Path::new(env!("CARGO_MANIFEST_DIR")).join("debian/copyright");
-    let copyright = fs::read_to_string(path).unwrap();
-    let (_, library) = copyright.split_once("Files: dist/*.s\n").unwrap();
-    let (_, licences) = library.split_once("\nLicense: ").unwrap();
-    let licences = licences.lines().next().unwrap().replace(" and ", " AND ");
-    assert_eq!(env!("CARGO_PKG_LICENSE"), licences);
 }

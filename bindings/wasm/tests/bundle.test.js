@@ -6,10 +6,10 @@ import { mkdirSync, mkdtempSync, readFileSync, rmSync, symlinkSync, writeFileSyn
 import { createRequire } from "node:module";
 import { tmpdir } from "node:os";
 import { join } from "node:path";
-import { after, test } from "node:test";
+import { after } from "node:test";
 import { fileURLToPath, pathToFileURL } from "node:url";
 import * as errors from "../yurewha/index.js";
-import { BYTES, ROOT } from "./support.js";
+import { BYTES, ROOT, test } from "./support.js";
 
 const folder = mkdtempSync(join(tmpdir(), "yurewha-"));
 after(() => rmSync(folder, { recursive: true }));
@@ -63,11 +63,6 @@ test("the package exports its own description and the module", () => {
     const { resolve } = createRequire(join(folder, "entry.js"));
     const description = JSON.parse(readFileSync(resolve("yurewha/package.json"), "utf8"));
     assert.equal(description.name, "yurewha");
-    // The licences of what is compiled into the module, in the names of SPDX.
-    const copyright = readFileSync(new URL("debian/copyright", ROOT), "utf8");
-    const [, licences] = /^Files: .*yurewha\.wasm$[^]*?^License: (.*)$/m.exec(copyright);
-    const spdx = licences.replaceAll(" and ", " AND ").replace("-with-LLVM-exceptions", " WITH LLVM-exception");
-    assert.equal(description.license, spdx);
     assert.deepEqual(readFileSync(resolve("yurewha/yurewha.wasm")), BYTES);
     assert.throws(() => resolve("yurewha/library.js"));
 });

@@ -6,14 +6,13 @@ import { once } from "node:events";
 import { readFileSync } from "node:fs";
 import { createServer } from "node:http";
 import { Readable } from "node:stream";
-import { test } from "node:test";
 import { fileURLToPath } from "node:url";
 import { format } from "node:util";
 import { runInNewContext } from "node:vm";
 import * as errors from "../yurewha/index.js";
 import { STATUS, errorOf } from "../yurewha/errors.js";
 import { AREA } from "../yurewha/library.js";
-import { BYTES, ROOT, chunksOf, wrapped } from "./support.js";
+import { BYTES, ROOT, chunksOf, test, wrapped } from "./support.js";
 
 const MAX = 2n ** 64n - 1n;
 const y = await errors.load(BYTES);
@@ -116,6 +115,23 @@ test("data may be an ArrayBuffer, of which all bytes are taken", () => {
     const detached = new ArrayBuffer(32);
     structuredClone(detached, { transfer: [detached] });
     assert.throws(() => y.dataHash(detached), TypeError);
+});
+
+test("a Uint8Array isn't asked whether it is a buffer, for which an engine throws", async () => {
+    const { get } = Object.getOwnPropertyDescriptor(ArrayBuffer.prototype, "byteLength");
+    let asked = 0;
+    const asking = {
+        get() {
+            asked++;
+            return get.call(this);
+        },
+    };
+    Object.defineProperty(ArrayBuffer.prototype, "byteLength", asking);
+    const { dataOf } = await import("../yurewha/arguments.js?counted");
+    Object.defineProperty(ArrayBuffer.prototype, "byteLength", { get });
+    const data = counting(9);
+    assert.deepEqual([dataOf(data, "data"), asked], [data, 0]);
+    assert.deepEqual([dataOf(data.buffer, "data"), asked], [data, 1]);
 });
 
 test("texts are strings, marks are true or false, and lists are of pairs", () => {
@@ -833,8 +849,10 @@ test("each declared name is there, and each that is there is declared", () => {
     };
     const own = (it) => Object.getOwnPropertyNames(it);
     assert.deepEqual(own(y).sort(), members("Yurewha").sort());
-    for (const name of ["Hash", "Chunks", "Hasher", "Subtree", "Session", "HashIndex", "HashTree", "RangeProof", "OpenedRange", "VerifiedBlob"]) {
-        const freed = ["Subtree", "Session", "HashIndex", "HashTree", "OpenedRange"].includes(name) ? ["free"] : [];
+    const classes = own(y).filter((name) => /^[A-Z]/.test(name));
+    assert.deepEqual(classes.filter((name) => y[name].prototype.free), ["Subtree", "Session", "HashIndex", "HashTree", "OpenedRange", "FileHasher"]);
+    for (const name of classes) {
+        const freed = y[name].prototype.free ? ["free"] : [];
         assert.deepEqual(own(y[name].prototype).filter((it) => it !== "constructor").sort(), [...members(name), ...freed].sort());
         const statics = own(y[name]).filter((it) => !["length", "name", "prototype"].includes(it));
         assert.deepEqual(statics.sort(), members(`${name}Constructor`).filter((it) => it !== "prototype").sort());
@@ -846,7 +864,7 @@ test("each declared name is there, and each that is there is declared", () => {
 test("the examples of the declarations print what they say", async () => {
     const declared = readFileSync(new URL("bindings/wasm/yurewha/index.d.ts", ROOT), "utf8");
     const examples = [...declared.matchAll(/^ *\* ```js\n([^]*?)^ *\* ```$/gm)].map(([, lines]) => lines.replace(/^ *\* ?/gm, ""));
-    assert.equal(examples.length, 22);
+    assert.equal(examples.length, 26);
     for (const example of examples) {
         const printed = [];
         const run = new (async () => {}).constructor("y", "load", "console", example);

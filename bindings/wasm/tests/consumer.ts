@@ -19,13 +19,18 @@ import {
     Trapped,
     YurewhaError,
     load,
+    type CheckingOptions,
     type Chunk,
     type ChunkList,
+    type Chunker,
+    type ChunkerConstructor,
     type Chunks,
     type ChunksConstructor,
     type Data,
     type Difference,
     type FetchBytes,
+    type FileHasher,
+    type FileHasherConstructor,
     type Flat,
     type FlatInput,
     type FlatProof,
@@ -33,6 +38,7 @@ import {
     type Freed,
     type Hash,
     type HashConstructor,
+    type HashFileOptions,
     type HashIndex,
     type HashIndexConstructor,
     type HashTree,
@@ -41,6 +47,7 @@ import {
     type HasherConstructor,
     type OpenedRange,
     type OpenedRangeConstructor,
+    type Pieces,
     type Prove,
     type RangeProof,
     type RangeProofConstructor,
@@ -85,9 +92,22 @@ const others: Hasher[] = [y.Hasher.internalNode(), y.Hasher.keyed(hash.bytes)];
 async function* given(): AsyncGenerator<Uint8Array> {
     yield data;
 }
+const sources: Pieces[] = [new Blob([data]).stream(), new Blob([data]), given(), [data]];
 const streamed: Hash[] = [
-    await y.hashStream(new Blob([data]).stream()), await y.hashStream(given()), await y.hashStream([data]), ...y.dataHashes(data, [0, 7n]),
+    ...(await Promise.all(sources.map((it) => y.hashStream(it)))), ...y.dataHashes(data, [0, 7n]),
 ];
+const chunkers: ChunkerConstructor = y.Chunker;
+const chunker: Chunker = new chunkers().clone();
+const boundaries: [number | undefined, number, Uint8Array] = [chunker.nextBoundary(data.buffer), chunker.taken, chunker.state];
+const fileHashers: FileHasherConstructor = y.FileHasher;
+const fileHasher: FileHasher = new fileHashers().update(data).update(data.buffer);
+const hashFileOptions: HashFileOptions = { salt: new Uint8Array(32), signal: new AbortController().signal, onProgress: (bytes: number) => bytes.toFixed() };
+const fileHashes: [bigint, ...Hash[]] = [
+    fileHasher.size, fileHasher.hash, fileHasher.fileHash(new Uint8Array(32)), await y.hashFile([data, data], hashFileOptions), await y.hashBlob(new Blob([data, data])),
+];
+const ofFile: [Hash, number][] = [];
+for await (const it of y.chunksOf(new Blob([data]))) ofFile.push(it);
+for await (const it of y.hashCuts(given())) ofFile.push(it);
 const root: Hash = y.xorbHash(chunks);
 const inner: Hash = y.internalNodeHash(data);
 const files: Hash[] = [y.fileHash(pairs), y.fileHash(new Set(pairs), new Uint8Array(32))];
@@ -154,9 +174,10 @@ const remotePart: Blob = remote.slice(2).slice(0, 5, "text/html");
 const inParts: [ArrayBuffer, string, Uint8Array] = [await remotePart.slice(0, 1).arrayBuffer(), await remote.slice(0, 7).text(), await remote.slice(0, 1).bytes()];
 const pieces: ReadableStream<Uint8Array> = remote.slice(0, 7).stream();
 const checked: string[] = [];
-for await (const it of new Blob([data]).stream().pipeThrough(opened.checking()) as unknown as AsyncIterable<Uint8Array>) checked.push(new TextDecoder().decode(it));
+const limits: CheckingOptions = { chunkLimit: 7n };
+for await (const it of new Blob([data]).stream().pipeThrough(opened.checking(limits)) as unknown as AsyncIterable<Uint8Array>) checked.push(new TextDecoder().decode(it));
 const point: number | null = y.findStableStart(chunks) ?? y.findStableEnd(lists[0]!);
-const freed: Freed[] = [again, back, restoredIndex];
+const freed: Freed[] = [again, back, restoredIndex, fileHasher];
 
 try {
     y.Subtree.fromJSON("[]");
@@ -344,6 +365,28 @@ export async function refused(): Promise<void> {
     hasher.digest("hex");
     // @ts-expect-error the hash so far isn't a call
     hasher.hash();
+    // @ts-expect-error a chunk may not end in the data
+    chunker.nextBoundary(data).toFixed();
+    // @ts-expect-error a chunker takes bytes
+    chunker.nextBoundary("abc");
+    // @ts-expect-error a chunker holds no memory
+    chunker.free();
+    // @ts-expect-error a file's size is a BigInt
+    const bytes: number = fileHasher.size;
+    // @ts-expect-error a root is a call
+    fileHasher.root.hex();
+    // @ts-expect-error a salt is bytes
+    fileHasher.fileHash(hash);
+    // @ts-expect-error a file's hash comes later
+    y.hashFile(new Blob([data])).hex();
+    // @ts-expect-error a file has one way to be hashed
+    await y.hashFile(new Blob([data]), { salted: data });
+    // @ts-expect-error a stream isn't a Blob
+    await y.hashBlob(new Blob([data]).stream());
+    // @ts-expect-error progress is a number of bytes
+    await y.hashFile([data], { onProgress: (bytes: string) => void bytes });
+    // @ts-expect-error an instance's chunks come one after another
+    y.chunksOf([data])[0];
     // @ts-expect-error a length can't be set
     hasher.count = 0n;
     // @ts-expect-error a Subtree is made by its calls
@@ -516,6 +559,12 @@ export async function refused(): Promise<void> {
     remote.size = 7;
     // @ts-expect-error there is nothing to free
     remote.free();
+    // @ts-expect-error a limit is a number
+    opened.checking({ chunkLimit: "7" });
+    // @ts-expect-error only a hash has a text
+    const texts: string = remote.toString().toUpperCase();
+    // @ts-expect-error a response gives pieces by its body
+    await y.hashStream(new Response(data));
     // @ts-expect-error what is checked is bytes
     new ReadableStream<string>().pipeThrough(opened.checking());
     // @ts-expect-error the package comes later
@@ -543,14 +592,16 @@ const blobbed = `${remote.size} ${remote.start} ${remote.type} ${remotePart.type
     inParts[1] === "a chunk" && inParts[2].length === 1 && (await y.hashStream(pieces)).equals(hash) && remote.fileHash.equals(y.fileHash(pairs)) &&
     sure[0] === 0n && sure[1].length === 2 && buffers.every((it) => y.dataHash(it).equals(hash) && hasher.clone().update(it).count === 14n);
 const same = final !== null && final.equals(root) && restored.root(2).equals(root) && session.root(2).equals(root) && files[0]!.equals(session.finish(2));
-const hashed = order === 0 && streamed.length === 4 && streamed.every((it) => it.equals(hash)) && counts[1].equals(hash) && counts[0] === 7n;
+const hashed = order === 0 && streamed.length === 5 && streamed.every((it) => it.equals(hash)) && counts[1].equals(hash) && counts[0] === 7n;
 const salted = file !== null && file.equals(files[1]!) && file.equals(session.finish(2, new Uint8Array(32)));
 const listed = copies.every((it) => y.xorbHash(it).equals(root)) && last?.[1] === 200n && nodes.length === 1 && gaps.length === 1;
 const proven = `${place} ${after} ${bytesOf}` === "0 1 0,7" && `${sides[0].length} ${sides[1].length} ${sides[2]}` === "0 1 1" &&
     proofs.every((it) => it.equals(proof)) && `${places}` === "0,7,0,207" && part?.length === 2 && checked.join() === "a chunk" && byRoot.numChunks === 1;
 const indexed = `${added} ${numbers} ${entries.length} ${savedIndex.length} ${differing} ${differingBytes}` === "2 7, 1 1 0,1,0 0,7,0";
 const more = taken && told[3] === 1 && read.length === 4 && !cut === (hash.remainder(4n) !== 0n) && others.length === 2 && !inner.equals(hash);
+const cutFile = `${boundaries}` === `,7,${chunker.state}` && fileHashes[0] === 14n && fileHashes.slice(1).every((it) => it.toString() === fileHashes[1]!.toString()) &&
+    ofFile.length === 2 && ofFile.every(([it, bytes]) => it.equals(hash) && bytes === 7);
 console.log(
-    same && indexed && hashed && salted && listed && more && classes.length === 5 && provers.length === 3 && proven && blobbed && kinds.length === 9 && source !== null && fresh === 2 && start > 0n &&
+    same && indexed && cutFile && hashed && salted && listed && more && classes.length === 5 && provers.length === 3 && proven && blobbed && kinds.length === 9 && source !== null && fresh === 2 && start > 0n &&
         levels.length > 0 && parents >= 0 && point === null && `${first} ${rest[0]}`.length > 128,
 );

@@ -1,9 +1,8 @@
 // Where two files differ.
 
 import assert from "node:assert/strict";
-import { test } from "node:test";
 import * as errors from "../yurewha/index.js";
-import { BYTES } from "./support.js";
+import { BYTES, test } from "./support.js";
 
 const y = await errors.load(BYTES);
 const treeOf = (chunks, it = y) => it.HashTree.fromChunks(chunks);

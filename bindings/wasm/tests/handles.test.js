@@ -1,11 +1,10 @@
 // Freeing, and traps. Needs --expose-gc.
 
 import assert from "node:assert/strict";
-import { test } from "node:test";
 import { setTimeout } from "node:timers/promises";
 import { EmptyHandle, SessionGap, SessionOverlap, Trapped } from "../yurewha/index.js";
 import { AREA } from "../yurewha/library.js";
-import { BYTES, chunksOf, wrapped } from "./support.js";
+import { BYTES, chunksOf, test, wrapped } from "./support.js";
 
 /** An instance that counts the blocks it has given out, and the calls of its exports. No call may get a block that was given back. */
 async function counted() {
@@ -39,53 +38,6 @@ async function counted() {
 const list = (y, count) => chunksOf(y, { drawn: { firstSeed: "1", count } });
 
 const openedRange = (y) => y.RangeProof.fromChunks(list(y, 3), 1, 2).openRoot(y.xorbHash(list(y, 3)));
-
-/** Each call of an object, with other objects in place. */
-function callsOf(y) {
-    const range = () => y.Subtree.fromChunks(false, list(y, 3), false);
-    const other = range();
-    const tree = y.HashTree.fromChunks(list(y, 2));
-    const hash = new y.Hash();
-    return {
-        Subtree: [range, [
-            (it) => it.atStart, (it) => it.atEnd, (it) => it.totalSize, (it) => it.numNodes, (it) => it.numLevels, (it) => it.levels,
-            (it) => it.mergeInto(other), (it) => other.mergeInto(it), (it) => it.mergeInto(it), (it) => it.finalHash(), (it) => it.clone(),
-            (it) => it.equals(other), (it) => other.equals(it), (it) => it.equals(it), (it) => it.toJSON(), (it) => it.toFlat(),
-            (it) => it.nodes, (it) => it.fileHash(), (it) => it.fileHash(new Uint8Array(32)),
-            (it) => new y.Session().pushRun(0, 1, it), (it) => y.Subtree.merge([other, it]), (it) => y.Subtree.merge([it]), (it) => y.Subtree.merge([it, it]),
-        ]],
-        Session: [() => new y.Session(), [
-            (it) => it.put(0, []), (it) => it.taken(0), (it) => it.numRuns, (it) => it.run(0), (it) => it.runs(), (it) => it.root(0),
-            (it) => it.finish(0), (it) => it.runFrom(0), (it) => it.pushRun(0, 1, other), (it) => it.keepHashes([]),
-            (it) => it.knownHashes(), (it) => it.numChunks, (it) => it.totalSize, (it) => it.gaps(0), (it) => it.saved,
-            (it) => it.finish(0, new Uint8Array(32)), (it) => it.clone(),
-        ]],
-        HashTree: [() => y.HashTree.fromChunks(list(y, 3)), [
-            (it) => it.root, (it) => it.fileHash(), (it) => it.numChunks, (it) => it.totalSize, (it) => it.chunksAt(0, 1), (it) => it.bytesOf(0, 1),
-            (it) => it.proof(0, 1), (it) => it.proof(1, 0), (it) => it.diff(tree), (it) => tree.diff(it), (it) => it.diff(it),
-        ]],
-        HashIndex: [() => new y.HashIndex(), [
-            (it) => it.size, (it) => it.insert([], []), (it) => it.find([]), (it) => it.get(hash), (it) => it.has(hash), (it) => it.entries(),
-            (it) => it.saved, (it) => it.clone(),
-        ]],
-        OpenedRange: [() => openedRange(y), [
-            (it) => it.proof, (it) => it.fileSize, (it) => it.numChunks, (it) => it.begins(0), (it) => it.ends(0), (it) => it.check(0, new Uint8Array()),
-            (it) => it.read(0, 0, new Uint8Array()), (it) => it.checking(),
-        ]],
-    };
-}
-
-test("each call of a freed object throws, and freeing twice is harmless", async () => {
-    const { yurewha } = await counted();
-    for (const [make, calls] of Object.values(callsOf(yurewha))) {
-        for (const call of calls) {
-            const object = make();
-            object.free();
-            object.free();
-            assert.throws(() => call(object), EmptyHandle, `${call}`);
-        }
-    }
-});
 
 /** Calls that run code of the caller's, each with an object that this code frees. */
 function freeingCalls(y) {
@@ -144,6 +96,7 @@ test("a subclass of Uint8Array can't tell another length or other elements", asy
     const [odd32, plain32] = [new Odd(32).fill(7), new Uint8Array(32).fill(7)];
     const calls = [
         (data) => y.dataHash(data), (data) => y.internalNodeHash(data), (data) => new y.Hasher().update(data).digest(),
+        (data) => new y.FileHasher().update(data).root(), (data) => new y.Hash(new Uint8Array(32).fill(new y.Chunker().nextBoundary(data) ?? 7)),
         (data) => y.xorbHash(new y.Chunks(data)), (data) => y.dataHashes(data, [0, 80])[0],
     ];
     for (const call of calls) assert.equal(call(odd).hex(), call(plain).hex(), `${call}`);
@@ -195,8 +148,11 @@ test("every block goes back", async () => {
     index.insert(chunks.map(([hash]) => hash), chunks.map((_, k) => k));
     index.clone().free();
     y.HashIndex.restore(index.saved).free();
+    const hasher = new y.FileHasher();
+    for (const length of [9000, 2 * AREA]) hasher.update(new Uint8Array(length)).root();
+    for (const call of [() => hasher.update("text"), () => hasher.fileHash(new Uint8Array(31))]) assert.throws(call);
     for (const given of [[[], [1]], [[1], [1]]]) assert.throws(() => index.insert(...given));
-    made.push(tree, opened, index);
+    made.push(tree, opened, index, hasher);
     y.xorbHash(y.Chunks.from(list(y, 30_000)));
     for (const object of [front, back, run, session, ...made]) object.free();
     assert.equal(seen.blocks, before);
@@ -205,7 +161,7 @@ test("every block goes back", async () => {
 test("an object is freed by Symbol.dispose", async () => {
     const { yurewha: y, seen } = await counted();
     const before = seen.blocks;
-    for (const object of [y.Subtree.fromChunks(true, [], true), new y.Session(), new y.HashIndex(), y.HashTree.fromChunks([]), openedRange(y)]) {
+    for (const object of [y.Subtree.fromChunks(true, [], true), new y.Session(), new y.HashIndex(), y.HashTree.fromChunks([]), openedRange(y), new y.FileHasher()]) {
         object[Symbol.dispose]();
         assert.throws(() => object.numRuns ?? object.numNodes ?? object.numChunks ?? object.size, EmptyHandle);
     }
@@ -219,6 +175,7 @@ test("an object that nobody can reach is freed some time later", async () => {
     (() => {
         const made = () => [
             y.Subtree.fromChunks(true, list(y, 5), false), new y.Session(), new y.HashIndex(), y.HashTree.fromChunks(list(y, 5)), openedRange(y),
+            new y.FileHasher(),
         ];
         for (let k = 0; k < 200; k++) made().forEach((it, n) => n + k === 0 && it.free());
     })();

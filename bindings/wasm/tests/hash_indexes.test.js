@@ -1,11 +1,10 @@
 // Indexes of hashes: a number for each of some hashes.
 
 import assert from "node:assert/strict";
-import { test } from "node:test";
 import * as errors from "../yurewha/index.js";
 import { STATUS } from "../yurewha/errors.js";
 import { AREA } from "../yurewha/library.js";
-import { BYTES, wrapped } from "./support.js";
+import { BYTES, test, wrapped } from "./support.js";
 
 const MAX = 2n ** 64n - 1n;
 const y = await errors.load(BYTES);

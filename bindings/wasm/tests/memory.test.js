@@ -1,14 +1,15 @@
 // Memory that can't grow: each call that takes memory, with the growth or the block refused at each point in turn.
 
 import assert from "node:assert/strict";
-import { test } from "node:test";
 import { InvalidText, OutOfMemory, load } from "../yurewha/index.js";
 import { AREA } from "../yurewha/library.js";
-import { BYTES, capped, chunksOf, pagesOf, wrapped } from "./support.js";
+import { BYTES, capped, chunksOf, mixed, pagesOf, test, wrapped } from "./support.js";
 
 const COUNT = 300;
 /** The calls of a scene that take no memory. */
 const TAKE_NONE = ["base64", "findStableStart", "findStableEnd", "a proof of bytes", "gaps", "look-ups of an index", "entries of an index", "diff"];
+/** More than the area of calls has room for. */
+const MUCH = new Uint8Array(2 * AREA);
 const plain = (range) => [range.atStart, range.atEnd, range.levels, Buffer.from(range.toFlat().nodes.bytes).toString("hex")];
 
 /** Objects of an instance, what they are, and calls on them, each with what it gives. */
@@ -36,9 +37,10 @@ function scene(y) {
     const index = new y.HashIndex();
     index.insert(others.slice(0, 100), numbers.slice(0, 100));
     const { saved: savedIndex } = index;
+    const hasher = new y.FileHasher().update(new Uint8Array(1000));
     const shorter = y.HashTree.fromChunks(chunks.slice(0, 200));
     const state = () => [
-        plain(front), plain(back), session.numRuns, restored.numRuns, index.size, index.find(others.slice(90, 110)), [0, 99, 100, 199, 200, 299, 300].map((position) => session.taken(position)), hash.hex(),
+        plain(front), plain(back), session.numRuns, restored.numRuns, hasher.size, index.size, index.find(others.slice(90, 110)), [0, 99, 100, 199, 200, 299, 300].map((position) => session.taken(position)), hash.hex(),
     ];
     const calls = {
         base64: () => hash.base64(),
@@ -78,7 +80,11 @@ function scene(y) {
         "a proof of bytes": () => new y.RangeProof(proof.bytes).bytes,
         open: () => told(proof.open(fileHash)),
         openRoot: () => told(proof.openRoot(root)),
+        "new FileHasher": () => new y.FileHasher().size,
+        "root of a hasher": () => hasher.root().hex(),
+        "file hash of a hasher": () => hasher.fileHash().hex(),
         // These change an object, so they come last.
+        "update of a hasher": () => [hasher.update(MUCH).size, hasher.root().hex()],
         pushRun: () => [restored.pushRun(400, 500, middle), restored.numRuns],
         "insert into an index": () => [index.insert(others, numbers), index.size],
         keepHashes: () => [restored.keepHashes(others), restored.knownHashes().length],
@@ -212,7 +218,7 @@ test("wasm32: what an object held is used again after it was freed", async () =>
     const saved = [...chunks].map(([hash], k) => [hash.hex(), `${k}`]);
     const makers = [
         () => y.Subtree.fromChunks(false, chunks, false), () => put(new y.Session()), () => y.HashTree.fromChunks(chunks), () => proof.openRoot(root),
-        () => y.HashIndex.restore(saved),
+        () => y.HashIndex.restore(saved), () => new y.FileHasher().update(mixed(500_000)),
     ];
     for (const make of makers) {
         make().free();

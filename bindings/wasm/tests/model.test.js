@@ -3,9 +3,8 @@
 
 import assert from "node:assert/strict";
 import { readFileSync } from "node:fs";
-import { test } from "node:test";
 import * as errors from "../yurewha/index.js";
-import { BYTES } from "./support.js";
+import { BYTES, test } from "./support.js";
 
 const LEAST = 5000;
 const file = process.env.YUREWHA_CASES;

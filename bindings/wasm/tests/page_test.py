@@ -1,29 +1,26 @@
 """The page web/ in Chromium and Firefox: ranges are cut and merged, files hashed, and parts of files read with a proof. Roots and
-counts are compared with the model's, and each state is photographed.
+counts are compared with the model's, and each state is photographed. Then the cases of page_cases.py are tried.
 
-    page_test.py FOLDER
+    page_test.py FOLDER         all, with the photographs in FOLDER
+    page_test.py FOLDER CASE    a case, in Chromium alone
 """
 
 from __future__ import annotations
 
 import functools
-import http.server
 import shutil
 import sys
 import tempfile
-import threading
-import time
 from pathlib import Path
-from typing import Any, Callable, List, Union
+from typing import Callable, List
 
-ROOT = Path(__file__).resolve().parents[3]
-sys.path[:0] = [str(ROOT / "tests/model"), str(Path(__file__).parent)]
-import range_proof as r  # noqa: E402
-import xet_model as m  # noqa: E402
-from browsers import Chromium, Firefox  # noqa: E402
+from pages import ROOT, Browser, Chromium, Firefox, address_of, choose, error, fill, opened, same, served, text, wait
+import chunker
+import page_cases
+import range_proof as r
+import xet_model as m
 
-Browser = Union[Chromium, Firefox]
-# What the page draws when it is opened, and where the list is cut and merged.
+# What the page draws when it is opened, and where the list is cut then, and merged.
 SEED, COUNT, CUTS = 122, 64, (16, 32, 48)
 ORDERS = ((16, 32, 48), (48, 32, 16), (16, 48, 32))
 
@@ -50,37 +47,6 @@ def parents_of(nodes: List[m.Node], order: tuple[int, ...]) -> List[int]:
     return counts
 
 
-class Server(http.server.SimpleHTTPRequestHandler):
-    """`python3 -m http.server` without its log."""
-
-    def log_message(self, *words: Any) -> None:
-        pass
-
-
-def served(folder: Path) -> http.server.ThreadingHTTPServer:
-    handler = functools.partial(Server, directory=str(folder))
-    server = http.server.ThreadingHTTPServer(("127.0.0.1", 0), handler)
-    threading.Thread(target=server.serve_forever, daemon=True).start()
-    return server
-
-
-def same(found: Any, wanted: Any) -> None:
-    if found != wanted:
-        raise AssertionError(f"{found!r} was found, {wanted!r} is wanted")
-
-
-def wait(browser: Browser, script: str, seconds: int = 60) -> None:
-    for _ in range(seconds * 10):
-        if browser.run(f"return Boolean({script})"):
-            return
-        time.sleep(0.1)
-    raise AssertionError(f"never true: {script}")
-
-
-def text(browser: Browser, name: str) -> str:
-    return browser.run("return document.getElementById(arguments[0]).textContent", name)
-
-
 def merge_in_each_order(browser: Browser, photo: Callable[[str], None]) -> None:
     """The list is cut at three places, and merged in three bracketings."""
     nodes = drawn(SEED, COUNT)
@@ -89,10 +55,7 @@ def merge_in_each_order(browser: Browser, photo: Callable[[str], None]) -> None:
     same(browser.run("return document.querySelectorAll('.row .node.cut').length >= 1"), True)
     cuts = browser.run("return [...document.querySelectorAll('.pair .node')].map((it) => it.classList.contains('cut'))")
     same(cuts, [m.is_cut(node) for node in nodes])
-    for position in CUTS:
-        browser.click(f"#between-{position}")
-    same(browser.run("return document.querySelectorAll('.range').length"), 4)
-    same(browser.run("return document.activeElement.id"), f"between-{CUTS[-1]}")
+    same(browser.run("return [...document.querySelectorAll('button.merge')].map((it) => it.id)"), [f"between-{position}" for position in CUTS])
     photo("cut")
     for number, order in enumerate(ORDERS):
         if number:
@@ -131,7 +94,7 @@ def use_the_keyboard(browser: Browser) -> None:
 
 def draw_paste_and_play(browser: Browser, photo: Callable[[str], None]) -> None:
     nodes = drawn(7, 60)
-    browser.run("document.getElementById('seed').value = 7; document.getElementById('count').value = 60")
+    fill(browser, {"seed": 7, "count": 60})
     browser.click("#draw button")
     same(text(browser, "root-at-once"), m.to_hex(m.root(nodes, maker)))
     browser.click("#play")
@@ -141,28 +104,27 @@ def draw_paste_and_play(browser: Browser, photo: Callable[[str], None]) -> None:
     browser.click("summary")
     pasted = [((k, 1, 2, 4 + k % 3), 2**64 - 100 + k if k == 0 else k) for k in range(12)]
     lines = "".join(f"{m.to_hex(hash_)} {size}\n" for hash_, size in pasted)
-    browser.run("document.getElementById('pairs').value = arguments[0]", lines)
+    fill(browser, {"pairs": lines})
     browser.click("#paste button")
     same(text(browser, "root-at-once"), m.to_hex(m.root(pasted, maker)))
     for bad, said in (("", "Line 1 is no pair"), (lines + "x\n", "Line 13 is no pair"), (lines + lines, "Sizes or lengths add up to more than")):
-        browser.run("document.getElementById('pairs').value = arguments[0]", bad)
+        fill(browser, {"pairs": bad})
         browser.click("#paste button")
-        same(text(browser, "error").startswith(said) and not browser.run("return document.getElementById('error').hidden"), True)
+        same((error(browser) or "").startswith(said), True)
         same(text(browser, "root-at-once"), m.to_hex(m.root(pasted, maker)))
     photo("refused")
 
 
 def hash_files(browser: Browser, folder: Path, photo: Callable[[str], None]) -> None:
-    datas = {"empty": b"", "short.txt": b"a chunk", "long.bin": bytes(k % 251 for k in range(30_000))}
+    datas = {"empty": b"", "short.txt": b"a chunk", "long.bin": bytes(k % 251 for k in range(30_000)), "mixed.bin": chunker.mixed(300_000)}
     for name, data in datas.items():
         (folder / name).write_bytes(data)
-    nodes = [(m.compute_data_hash(data), len(data)) for data in datas.values()]
     browser.click("#tab-files")
     browser.type("#chunks-of", "\n".join(str(folder / name) for name in datas))
-    wait(browser, "!document.getElementById('files-roots').hidden")
-    hashes = browser.run("return [...document.querySelectorAll('#hashed tr')].map((row) => [...row.cells].map((it) => it.textContent))")
-    same(hashes, [[name, str(len(data)), m.to_hex(node[0])] for (name, data), node in zip(datas.items(), nodes)])
-    same([text(browser, "files-root"), text(browser, "files-hash")], [m.to_hex(m.root(nodes)), m.to_hex(m.file_root(nodes))])
+    wait(browser, "document.getElementById('progress-said').textContent === 'Done.'")
+    hashes = browser.run("return [...document.querySelectorAll('#named tr')].map((row) => [...row.cells].map((it) => it.textContent))")
+    same(hashes, [[name, str(len(data)), str(len(chunker.cuts(data))), m.to_hex(chunker.file_hash(data))] for name, data in datas.items()])
+    same(browser.run("return [document.getElementById('hashed').rows.length, document.getElementById('files-roots').hidden]"), [0, True])
     same([text(browser, "progress-said"), browser.run("return document.getElementById('progress').value")], ["Done.", 1])
     photo("files")
     drop = """
@@ -171,8 +133,8 @@ def hash_files(browser: Browser, folder: Path, photo: Callable[[str], None]) -> 
         document.getElementById("drop").dispatchEvent(new DragEvent("drop", { dataTransfer: files, bubbles: true, cancelable: true }));
     """
     browser.run(drop)
-    wait(browser, "document.getElementById('hashed').rows.length === 1 && !document.getElementById('files-roots').hidden")
-    same(text(browser, "files-root"), m.to_hex(m.compute_data_hash(b"a chunk")))
+    wait(browser, "document.getElementById('named').textContent.startsWith('dropped')")
+    same(browser.run("return document.getElementById('named').rows[0].cells[3].textContent"), m.to_hex(chunker.file_hash(b"a chunk")))
     data, cuts = datas["long.bin"], [0, 10_000, 10_001, 30_000]
     nodes = [(m.compute_data_hash(data[begin:end]), end - begin) for begin, end in zip(cuts, cuts[1:])]
     browser.run("document.getElementById('cuts').value = '10000, 10001'")
@@ -195,7 +157,7 @@ def hash_files(browser: Browser, folder: Path, photo: Callable[[str], None]) -> 
     wait(browser, "!document.getElementById('error').hidden")
     same(text(browser, "error").startswith("Line 1 is no pair"), True)
     browser.click("#tab-ranges")
-    same(browser.run("return document.getElementById('error').hidden"), True)
+    same((error(browser) or "").startswith("Sizes or lengths add up to more than"), True)
 
 
 def pieces_of(data: bytes, length: int) -> List[m.Node]:
@@ -225,19 +187,14 @@ def read_a_part(browser: Browser, folder: Path, photo: Callable[[str], None]) ->
     browser.type("#part-of", str(folder / "picked.txt"))
     wait(browser, "document.getElementById('part-file-size').textContent.startsWith('40007 bytes')")
     for first, end in ((40_000, 40_006), (0, 1), (1234, 9876), (0, 40_007)):
-        browser.run("document.getElementById('from').value = arguments[0]; document.getElementById('to').value = arguments[1]", first, end)
+        fill(browser, {"from": first, "to": end - 1})
         browser.click("#read-part button")
         assert_part(browser, data, 500, first, end)
     photo("part-whole")
-    browser.run("document.getElementById('from').value = 40007")
+    fill(browser, {"from": 40_006, "to": 40_005})
     browser.click("#read-part button")
     same([text(browser, "error"), text(browser, "part-verdict")], ["The file has no such bytes.", ""])
     browser.click("#tab-ranges")
-
-
-def choose(browser: Browser, change: str) -> None:
-    script = "const it = document.getElementById('change'); it.value = arguments[0]; it.dispatchEvent(new Event('change'))"
-    browser.run(script, change)
 
 
 def assert_part(browser: Browser, data: bytes, length: int, first: int, end: int) -> None:
@@ -248,7 +205,7 @@ def assert_part(browser: Browser, data: bytes, length: int, first: int, end: int
     proof = r.prove(nodes, *chunks)
     count = len(r.to_flat(proof)[1])
     same(text(browser, "part-file-hash"), m.to_hex(m.file_root(nodes)))
-    same(text(browser, "part-verdict"), f"Accepted: these are bytes {first} to {end} of a file of {len(data)} bytes.")
+    same(text(browser, "part-verdict"), f"Accepted: these are bytes {first} to {end - 1} of a file of {len(data)} bytes.")
     same(text(browser, "part-bytes").startswith(data[first : min(end, first + 240)].decode()), True)
     same(f"a proof of {count} nodes ({len(r.to_json_text(proof))} bytes of JSON)" in text(browser, "sent"), True)
     top = browser.run("return [...document.querySelectorAll('#path title')].at(-1).textContent")
@@ -281,8 +238,7 @@ def whole(kind: Callable[[int, bool], Browser], url: str, width: int, dark: bool
     name = f"{kind.__name__.lower()}-{width}-{'dark' if dark else 'light'}"
     photo = lambda state: browser.screenshot(photos / f"{name}-{state}.png")  # noqa: E731
     try:
-        browser.open(url)
-        wait(browser, "'ready' in document.documentElement.dataset")
+        opened(browser, url)
         same(browser.run("return document.getElementById('error').hidden && document.getElementById('loading').hidden"), True)
         same(browser.run("return document.title").startswith("Yurewha"), True)
         photo("opened")
@@ -307,8 +263,7 @@ def without_the_package(kind: Callable[[int, bool], Browser], photos: Path) -> N
         with tempfile.TemporaryDirectory() as folder:
             web = Path(folder, "web")
             shutil.copytree(ROOT / "web", web)
-            browser.open(address_of(served(Path(folder))))
-            wait(browser, "'ready' in document.documentElement.dataset")
+            opened(browser, address_of(served(Path(folder))))
             same([text(browser, "error"), browser.run("return document.getElementById('error').hidden")], [said, False])
             browser.screenshot(photos / f"{kind.__name__.lower()}-without-the-package.png")
             browser.run("document.getElementById('error').hidden = true")
@@ -322,18 +277,26 @@ def without_the_package(kind: Callable[[int, bool], Browser], photos: Path) -> N
         browser.close()
 
 
-def address_of(server: http.server.ThreadingHTTPServer) -> str:
-    return f"http://127.0.0.1:{server.server_address[1]}/web/"
+def choices(kind: Callable[[int, bool], Browser], names: List[str]) -> None:
+    browser = kind(1200, False)
+    try:
+        page_cases.try_cases(browser, names)
+    finally:
+        browser.close()
 
 
 def main() -> None:
     photos = Path(sys.argv[1])
     photos.mkdir(parents=True, exist_ok=True)
+    if sys.argv[2:]:
+        choices(Chromium, sys.argv[2:])
+        return
     url = address_of(served(ROOT))
     for kind in (Chromium, Firefox):
         whole(kind, url, 1200, False, photos)
         whole(kind, url, 360 if kind is Chromium else 500, True, photos)
         without_the_package(kind, photos)
+        choices(kind, list(page_cases.CASES))
 
 
 if __name__ == "__main__":

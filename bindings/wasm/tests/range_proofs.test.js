@@ -1,10 +1,10 @@
 // Range proofs: what the vectors don't show. Streams that are checked, types of arguments, forms, and proofs that are altered.
 
 import assert from "node:assert/strict";
-import { test } from "node:test";
+import { setTimeout } from "node:timers/promises";
 import * as errors from "../yurewha/index.js";
 import { AREA } from "../yurewha/library.js";
-import { BYTES, chunksOf, dataOf, wrapped } from "./support.js";
+import { BYTES, chunksOf, dataOf, test, wrapped } from "./support.js";
 
 const MAX = 2n ** 64n - 1n;
 /** A number that is 0 in 32 bits. */
@@ -23,11 +23,13 @@ const data = dataOf(FILE);
 const tree = y.HashTree.fromChunks(chunksOf(y, FILE));
 const rangeOf = (first, end) => tree.proof(first, end).open(tree.fileHash());
 
+const counting = (length) => Uint8Array.from({ length }, (_, k) => k % 251);
+
 /** What comes out of a stream of a range, given pieces; or the error that ends it, with what came before. */
-async function passed(range, pieces) {
+async function passed(range, pieces, options) {
     const found = [];
     try {
-        for await (const chunk of ReadableStream.from(pieces).pipeThrough(range.checking())) found.push(Buffer.from(chunk));
+        for await (const chunk of ReadableStream.from(pieces).pipeThrough(range.checking(options))) found.push(Buffer.from(chunk));
     } catch (error) {
         return [Buffer.concat(found), error];
     }
@@ -100,10 +102,60 @@ test("data of any length is refused if a byte of it is wrong", async () => {
             const wrong = right.slice();
             wrong[at] ^= 1;
             assert.deepEqual([range.check(0, wrong), range.read(0, length, wrong)], [null, null], `byte ${at} of ${length}`);
-            const [found, error] = await passed(range, [wrong]);
-            assert.ok(found.length === 0 && error instanceof errors.ProofMismatch, `byte ${at} of ${length}`);
+            const [found, error] = await passed(range, [wrong], { chunkLimit: length });
+            assert.deepEqual([found.length, error], [0, new errors.ProofMismatch("the data of chunk 0 of the range isn't the file's")], `byte ${at} of ${length}`);
         }
     }
+});
+
+test("a stream takes chunks up to a limit, and keeps nothing of one that is longer by the proof's word", async () => {
+    const refused = (chunk, length, limit) =>
+        new errors.ProofMismatch(`by the proof, chunk ${chunk} of the range has ${length} bytes, more than chunkLimit, ${limit}`);
+    const long = new Uint8Array((1 << 20) + 1).fill(7);
+    for (const [length, options, limit] of [
+        [1 << 20, undefined, 1 << 20], [long.length, undefined, 1 << 20], [long.length, { chunkLimit: long.length }, long.length],
+        [9, { chunkLimit: 9n }, 9], [10, { chunkLimit: 9n }, 9], [0, { chunkLimit: 0 }, 0],
+    ]) {
+        const whole = [data[0], long.subarray(0, length)];
+        const proof = y.RangeProof.fromChunks(whole.map((it) => [y.dataHash(it), it.length]), 0, 2);
+        const [found, error] = await passed(proof.openRoot(y.xorbHash(proof.chunks)), [Buffer.concat(whole)], options);
+        const tooLong = whole.findIndex((it) => it.length > limit);
+        if (tooLong < 0) assert.deepEqual([found, error], [Buffer.concat(whole), null], `${length}`);
+        else assert.deepEqual([error, found.length <= whole[0].length], [refused(tooLong, whole[tooLong].length, limit), true]);
+    }
+    for (const size of [2 ** 40, MAX - 5n]) {
+        const forged = y.HashTree.fromChunks([[y.Hash.randomFromSeed(1), size], [y.Hash.randomFromSeed(2), 5]]);
+        const range = forged.proof(0, 1).open(forged.fileHash());
+        let sent = 0;
+        const endless = new ReadableStream({ pull: (controller) => (sent++, controller.enqueue(new Uint8Array(1000))) }, { highWaterMark: 0 });
+        await assert.rejects(new Response(endless.pipeThrough(range.checking())).arrayBuffer(), refused(0, BigInt(size), 1 << 20));
+        assert.ok(sent < 5, `${sent} pieces were taken`);
+    }
+    for (const chunkLimit of [1.5, "1", null]) assert.throws(() => rangeOf(0, 1).checking({ chunkLimit }), TypeError);
+    assert.throws(() => rangeOf(0, 1).checking({ chunkLimit: -1 }), RangeError);
+});
+
+test("a stream keeps no piece, however short it is", async () => {
+    const right = counting(3000);
+    const root = y.dataHash(right);
+    const range = y.RangeProof.fromChunks([[root, right.length]], 0, 1).openRoot(root);
+    const { readable, writable } = range.checking();
+    const [reader, writer] = [readable.getReader(), writable.getWriter()];
+    const first = reader.read();
+    const pieces = [];
+    for (let at = 0; at < right.length - 1; at++) {
+        const piece = right.slice(at, at + 1);
+        pieces.push(new WeakRef(piece.buffer));
+        await writer.write(piece);
+    }
+    const kept = () => pieces.filter((piece) => piece.deref()).length;
+    for (let k = 0; k < 50 && kept() > 10; k++) {
+        await setTimeout(10);
+        globalThis.gc();
+    }
+    assert.ok(kept() <= 10, `${kept()} pieces are kept`);
+    await writer.write(right.subarray(right.length - 1));
+    assert.deepEqual((await first).value, right);
 });
 
 test("each of many chunks of a stream is checked", async () => {

@@ -1,9 +1,8 @@
 // Readers of every kind get of a VerifiedBlob's stream what they get of a Blob's.
 
 import assert from "node:assert/strict";
-import { test } from "node:test";
 import { load } from "../yurewha/index.js";
-import { BYTES } from "./support.js";
+import { BYTES, test } from "./support.js";
 
 const y = await load(BYTES);
 /** A file of more bytes than a stream fetches at once. */

@@ -1,11 +1,15 @@
 // The module that `dist/make` made, and instances of it.
 
 import { readFileSync } from "node:fs";
+import { test as unlimited } from "node:test";
 import { instanceOver } from "../yurewha/instance.js";
 import { Library } from "../yurewha/library.js";
 
 export const ROOT = new URL("../../../", import.meta.url);
 export const BYTES = readFileSync(new URL("bindings/wasm/yurewha/yurewha.wasm", ROOT));
+
+/** A test, which fails if it takes more than five minutes. */
+export const test = (name, run) => unlimited(name, { timeout: 300_000 }, run);
 
 /** A library whose exports pass through `wrap`, and the package over it. */
 export async function wrapped(bytes, wrap) {
@@ -47,6 +51,22 @@ export function capped(bytes, pages) {
 }
 
 export const pagesOf = (exports) => exports.memory.buffer.byteLength / 65536;
+
+const BITS = 2n ** 64n - 1n;
+const MIXED = new BigUint64Array(125_000);
+
+/** The first bytes, of up to a million, of SplitMix64 from the seed 0, each number's lowest byte first. */
+export function mixed(count) {
+    if (MIXED[0] === 0n) {
+        MIXED.forEach((_, k) => {
+            let number = (BigInt(k + 1) * 0x9e3779b97f4a7c15n) & BITS;
+            number = ((number ^ (number >> 30n)) * 0xbf58476d1ce4e5b9n) & BITS;
+            number = ((number ^ (number >> 27n)) * 0x94d049bb133111ebn) & BITS;
+            MIXED[k] = number ^ (number >> 31n);
+        });
+    }
+    return new Uint8Array(MIXED.buffer, 0, count);
+}
 
 /** The chunks that a rule of the vectors says; tests/vectors/README.md has the rules. */
 export function chunksOf({ Hash, dataHash }, list) {

@@ -1,11 +1,10 @@
 // What comparisons, structured clones, JSON and Node's console see of an object, and how another thread gets it.
 
 import assert from "node:assert/strict";
-import { test } from "node:test";
 import { inspect } from "node:util";
 import { MessageChannel, receiveMessageOnPort } from "node:worker_threads";
 import * as errors from "../yurewha/index.js";
-import { BYTES, chunksOf, wrapped } from "./support.js";
+import { BYTES, chunksOf, test, wrapped } from "./support.js";
 
 const [y, other] = await Promise.all([errors.load(BYTES), errors.load(BYTES)]);
 const list = (count, it = y) => chunksOf(it, { drawn: { firstSeed: "1", count } });
@@ -20,6 +19,14 @@ const indexOf = (...entries) => {
     index.insert(entries.map(([seed]) => y.Hash.randomFromSeed(seed)), entries.map(([, number]) => number));
     return index;
 };
+/** A chunker and a hasher of so many bytes, of which the last may be another than 0. */
+const zeros = (count, last) => new Uint8Array(count).fill(last, count - 1);
+const chunkerOf = (count = 0, last = 0) => {
+    const chunker = new y.Chunker();
+    chunker.nextBoundary(zeros(count, last));
+    return chunker;
+};
+const fileOf = (count = 0, last = 0) => new y.FileHasher().update(zeros(count, last));
 const treeOf = (count) => y.HashTree.fromChunks(list(count));
 const proofOf = (first, end) => y.RangeProof.fromChunks(list(30), first, end);
 const rangeOf = (first, end) => proofOf(first, end).openRoot(y.xorbHash(list(30)));
@@ -33,6 +40,8 @@ const KINDS = {
     Hash: [() => new y.Hash(), () => y.Hash.randomFromSeed(1), () => y.Hash.randomFromSeed(2)],
     Chunks: [() => new y.Chunks(), () => y.Chunks.from(list(3)), () => y.Chunks.from(list(4))],
     Hasher: [() => new y.Hasher(), () => y.Hasher.internalNode(), () => new y.Hasher().update(Uint8Array.of(1)), () => new y.Hasher().update(Uint8Array.of(2))],
+    Chunker: [() => chunkerOf(), () => chunkerOf(8193), () => chunkerOf(9000), () => chunkerOf(8193, 200)],
+    FileHasher: [() => fileOf(), () => fileOf(1), () => fileOf(2), () => fileOf(2, 1), () => fileOf(140_000)],
     Subtree: [
         () => y.Subtree.fromChunks(true, [], true),
         () => y.Subtree.fromChunks(true, [], false),
@@ -58,6 +67,61 @@ for (const [kind, makers] of Object.entries(KINDS)) {
         });
     });
 }
+
+/** What takes data, and makes a text of what isn't any. Each returns the text. */
+const CONSUMERS = {
+    Response: (it) => new Response(it).text(),
+    Request: (it) => new Request("http://127.0.0.1/", { method: "POST", body: it }).text(),
+    Blob: (it) => new Blob([it]).text(),
+    File: (it) => new File([it], "name").text(),
+    "a part of a form": (it) => {
+        const form = new FormData();
+        form.append("it", it);
+        return form.get("it");
+    },
+    "a text in a form": (it) => new URLSearchParams({ it }).get("it"),
+    "a template": (it) => `${it}`,
+    String,
+    "a sum of texts": (it) => "" + it,
+    "a list's text": (it) => [it].join(),
+    toString: (it) => it.toString(),
+    TextEncoder: (it) => new TextDecoder().decode(new TextEncoder().encode(it)),
+    Buffer: (it) => Buffer.from(`${it}`).toString(),
+};
+/** What an error says to use of an object. */
+const USES = {
+    Chunks: "its bytes or toJSON()",
+    Hasher: "its digest()",
+    Chunker: "its taken",
+    FileHasher: "its root() or fileHash()",
+    Subtree: "its toJSON()",
+    HashIndex: "its saved lists",
+    HashTree: "its root or fileHash()",
+    RangeProof: "its bytes or toJSON()",
+    OpenedRange: "its read() or proof",
+    VerifiedBlob: "await it.arrayBuffer(), or in a Response it.stream()",
+    Session: "its toJSON()",
+};
+
+for (const [kind, [make]] of Object.entries(KINDS)) {
+    test(`no consumer of data takes a text that isn't that of a ${kind}`, async () => {
+        const told = new TypeError(`${kind} has no conversion to text, so no Response, Blob or template takes it: use ${USES[kind]}`);
+        for (const [name, consume] of Object.entries(CONSUMERS)) {
+            const taken = async () => consume(make());
+            if (kind === "Hash") assert.equal(await taken(), make().hex(), name);
+            else await assert.rejects(taken, told, name);
+        }
+        const clone = structuredClone(make());
+        assert.deepEqual([Object.getPrototypeOf(clone), Object.keys(clone)], [Object.prototype, Object.keys(make())]);
+    });
+}
+
+test("a VerifiedBlob is data by its stream or its buffer", async () => {
+    const consumers = [(it) => new Response(it).text(), (it) => new Request("http://127.0.0.1/", { method: "POST", body: it, duplex: "half" }).text()];
+    for (const consume of consumers) for (const it of [blob.stream(), await blob.arrayBuffer()]) assert.equal(await consume(it), "one chunk");
+    assert.equal(await new Blob([await blob.arrayBuffer()]).text(), "one chunk");
+    for (const consume of [(it) => URL.createObjectURL(it), (it) => new FormData().append("it", it, "name")]) assert.throws(() => consume(blob), TypeError);
+});
 
 test("a comparison sees what an object has become", () => {
     const [front, back] = [list(60).slice(0, 30), list(60).slice(30)].map((chunks) => y.Subtree.fromChunks(false, chunks, false));
@@ -208,7 +272,7 @@ test("a session's text is read as it was, though it changes meanwhile", async ()
     assert.equal(yurewha.Session.fromJSON(text).toJSON(), before);
 });
 
-test("a session that an earlier version saved is read", () => {
+test("a saved session has this form", () => {
     const json = `{"at_end":false,"at_start":false,"levels":[[1,0]],"nodes":[{"hash":"${"1".repeat(64)}","size":7}]}`;
     const text = JSON.stringify({ runs: [["4", "5", json]], knownHashes: ["1".repeat(64), "2".repeat(64)] });
     const session = y.Session.restore(JSON.parse(text));
@@ -259,6 +323,8 @@ test("Node's console shows what an object is", () => {
     assert.equal(plain(range), "Subtree { atStart: true, atEnd: false, totalSize: 7n, numLevels: 1, numNodes: 1 }");
     assert.equal(plain(sessionOf([4, 3])), "Session { numChunks: 3n, totalSize: 3231n, numRuns: 1 }");
     assert.equal(plain(new y.Hasher().update(Uint8Array.of(1, 2))).slice(0, 24), "Hasher { count: 2n, hash");
+    assert.equal(plain(chunkerOf(8193)), "Chunker { taken: 8193 }");
+    assert.equal(plain(fileOf(0)), `FileHasher { size: 0n, hash: Hash(${new y.Hash()}) }`);
     assert.equal(plain(indexOf([1, 7], [2, 7])), "HashIndex { size: 2 }");
     assert.equal(plain(y.HashTree.fromChunks([[hash, 7]])), `HashTree { numChunks: 1, totalSize: 7n, root: Hash(${hash.hex()}) }`);
     const proof = y.RangeProof.fromChunks([[hash, 7]], 0, 1);

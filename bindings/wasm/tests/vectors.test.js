@@ -2,12 +2,12 @@
 
 import assert from "node:assert/strict";
 import { readFileSync, readdirSync } from "node:fs";
-import { test } from "node:test";
 import * as errors from "../yurewha/index.js";
-import { BYTES, ROOT, chunksOf } from "./support.js";
+import { BYTES, ROOT, chunksOf, mixed, test } from "./support.js";
 
 const FOLDER = new URL("tests/vectors/scripts/", ROOT);
 const NAMES = [
+    "files",
     "hashes",
     "texts",
     "roots",
@@ -57,6 +57,15 @@ const CALLS = {
     hasher_count: (hasher) => hasher.count,
     hasher_update: (hasher, data) => void hasher.update(data),
     hasher_finalize: (hasher) => hasher.digest(),
+    chunker_begin: () => new y.Chunker(),
+    chunker_next_boundary: (chunker, data) => chunker.nextBoundary(data) ?? null,
+    chunker_taken: (chunker) => chunker.taken,
+    file_hasher_new: () => new y.FileHasher(),
+    file_hasher_update: (hasher, data) => void hasher.update(data),
+    file_hasher_size: (hasher) => hasher.size,
+    file_hasher_root: (hasher) => hasher.root(),
+    file_hasher_finish: (hasher) => hasher.fileHash(),
+    file_hasher_finish_with_salt: (hasher, salt) => hasher.fileHash(salt),
     chunks: (chunks) => chunks,
     xorb_hash: (chunks) => y.xorbHash(chunks),
     file_hash: (chunks) => y.fileHash(chunks),
@@ -161,6 +170,8 @@ const OTHERWISE = {
 };
 /** The calls that answer with doubles. All others answer with bigints. */
 const DOUBLES = new Set([
+    "chunker_next_boundary",
+    "chunker_taken",
     "compare",
     "find_stable_start",
     "find_stable_end",
@@ -184,8 +195,10 @@ const DOUBLES = new Set([
 const unhex = (text) => Uint8Array.from(Buffer.from(text, "hex"));
 const dataOf = (told) => {
     if (typeof told === "string") return unhex(told);
-    const [start, end] = told.message;
-    return Uint8Array.from({ length: end - start }, (_, k) => (start + k) % 251);
+    if ("mixed" in told) return mixed(told.mixed[1]).subarray(told.mixed[0]);
+    const bytes = "repeated" in told ? unhex(told.repeated) : Uint8Array.from({ length: 251 }, (_, k) => k);
+    const [start, end] = told.part ?? told.message;
+    return Uint8Array.from({ length: end - start }, (_, k) => bytes[(start + k) % bytes.length]);
 };
 const partOf = ({ part: [start, end] = [], ...rule }) => chunksOf(y, rule).slice(start, end);
 const hashOf = (hex) => y.Hash.fromHex(hex);
@@ -225,7 +238,8 @@ function state(it) {
     if (it instanceof y.HashTree) return it.root.hex();
     if (it instanceof y.OpenedRange) return it.proof.toJSON();
     if (it instanceof y.HashIndex) return it.saved;
-    return it instanceof y.Hasher ? it.hash.hex() : (it.toJSON?.() ?? null);
+    if (it instanceof y.Chunker) return it.state;
+    return it instanceof y.Hasher || it instanceof y.FileHasher ? it.hash.hex() : (it.toJSON?.() ?? null);
 }
 const states = (objects) => Object.values(objects).map(state);
 

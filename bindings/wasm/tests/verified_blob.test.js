@@ -7,13 +7,13 @@ import { mkdirSync, mkdtempSync, readFileSync, rmSync, symlinkSync, writeFileSyn
 import { createServer } from "node:http";
 import { tmpdir } from "node:os";
 import { join } from "node:path";
-import { after, test } from "node:test";
+import { after } from "node:test";
 import { setTimeout } from "node:timers/promises";
 import { fileURLToPath } from "node:url";
 import { promisify } from "node:util";
 import { STATUS } from "../yurewha/errors.js";
 import * as errors from "../yurewha/index.js";
-import { BYTES, ROOT, chunksOf, dataOf, wrapped } from "./support.js";
+import { BYTES, ROOT, chunksOf, dataOf, test, wrapped } from "./support.js";
 
 const y = await errors.load(BYTES);
 /** A file of 6.6 million bytes in 300 chunks, some of them empty. A stream fetches it in two pieces. */
@@ -294,6 +294,40 @@ test("a stream that is cancelled ends its requests", async () => {
     await until(() => server.asked.closed);
     stalls = false;
     assert.equal(await verified.slice(100_000, 100_003).text(), data.subarray(100_000, 100_003).toString());
+});
+
+test("a stream that is cancelled fetches nothing more, and tells why to what it asked", async () => {
+    const [untold, note] = [[], (error) => untold.push(error)];
+    process.on("unhandledRejection", note);
+    /** At which request the stream is cancelled, before or after its answer; and how many are made. The first two open the file. */
+    for (const [at, isAfter, wanted] of [[3, false, 3], [3, true, 3], [4, false, 4], [4, true, 4], [5, false, 5], [5, true, 5]]) {
+        const reason = new Error(`at ${at}`);
+        const [signals, asked] = [[], []];
+        let reader, answer;
+        const waits = new Promise((resolve) => (answer = resolve));
+        const counting = (what, call) => async (start, end, signal) => {
+            asked.push(what);
+            signals.push(signal);
+            if (asked.length === at && !isAfter) void reader.cancel(reason);
+            if (asked.length === at) await (isAfter ? waits : null);
+            return call(start, end);
+        };
+        const verified = await open({ cacheSize: 0 }, counting("data", bytesOf), counting("proof", proofOf));
+        reader = verified.stream().getReader();
+        const reads = (async () => {
+            while (!(await reader.read()).done);
+        })();
+        await until(() => asked.length >= at);
+        if (isAfter) void reader.cancel(reason);
+        answer();
+        await reads;
+        await setTimeout(20);
+        assert.deepEqual(asked, Array.from({ length: wanted }, (_, k) => ["proof", "data"][k % 2]), `${at} ${isAfter}`);
+        assert.equal(signals.at(-1).reason, reason);
+        assert.ok(signals.slice(2).every((signal) => signal === signals.at(-1)) && !signals[0].aborted);
+    }
+    process.off("unhandledRejection", note);
+    assert.deepEqual(untold, []);
 });
 
 test("a stream fetches one piece ahead, and no more", async () => {

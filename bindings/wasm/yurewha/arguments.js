@@ -54,7 +54,8 @@ export function bytes(value, what, kinds = "a Uint8Array") {
 
 /** The bytes of data, which is a Uint8Array or an ArrayBuffer, of this realm or another, as a plain view of them. */
 export function dataOf(value, what) {
-    if (isBuffer(value)) return new Uint8Array(value);
+    // Most data is a Uint8Array, and to ask that is fast. What isn't one makes the getter of a buffer's length throw, which is slow.
+    if (kindOf.call(value) === undefined && isBuffer(value)) return new Uint8Array(value);
     return bytes(value, what, "a Uint8Array or an ArrayBuffer");
 }
 

@@ -3,7 +3,7 @@
 import { bytes, decimal, mustBe, pairOf, u64 } from "./arguments.js";
 import { InvalidArguments } from "./errors.js";
 import { HASH_LENGTH } from "./hash.js";
-import { inspected, showing } from "./shown.js";
+import { inspected, showing, textless } from "./shown.js";
 
 export const CHUNK_LENGTH = 40;
 
@@ -65,6 +65,7 @@ export function makeChunks({ Hash, rawOf }) {
         }
     }
     const show = showing(Chunks, ["bytes"]);
+    textless(Chunks, "Chunks", "its bytes or toJSON()");
     inspected(Chunks, "Chunks", (chunks, inspect, { maxArrayLength }) => {
         const { length } = chunks;
         const most = Math.min(length, maxArrayLength ?? MOST_SHOWN);

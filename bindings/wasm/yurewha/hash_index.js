@@ -3,7 +3,7 @@
 import { decimal, pairOf, u64 } from "./arguments.js";
 import { Handles, disposable } from "./handle.js";
 import { HASH_LENGTH } from "./hash.js";
-import { inspected, showing } from "./shown.js";
+import { inspected, showing, textless } from "./shown.js";
 
 const NUMBER_LENGTH = 8;
 
@@ -129,6 +129,7 @@ export function makeHashIndex(library, { Hash, rawOf, packedHashes, unpacked }) 
         }
     }
     const show = showing(HashIndex, ["saved"]);
+    textless(HashIndex, "HashIndex", "its saved lists");
     inspected(HashIndex, "HashIndex", ({ size }, inspect) => ` ${inspect({ size })}`);
     return disposable(HashIndex);
 }

@@ -6,7 +6,7 @@ import { STATUS } from "./errors.js";
 import { Handle, Handles, disposable } from "./handle.js";
 import { HASH_LENGTH, thirtyTwo } from "./hash.js";
 import { MOST_BESIDE, noRange } from "./range_proof.js";
-import { inspected, showing } from "./shown.js";
+import { inspected, showing, textless } from "./shown.js";
 
 /** The class `HashTree` over a library. `written` makes the proof that a call writes. */
 export function makeHashTree(library, { result }, { packedOf }, written) {
@@ -120,6 +120,7 @@ export function makeHashTree(library, { result }, { packedOf }, written) {
         }
     }
     const show = showing(HashTree, ["root", "numChunks", "totalSize"]);
+    textless(HashTree, "HashTree", "its root or fileHash()");
     inspected(HashTree, "HashTree", ({ numChunks, totalSize, root }, inspect) => ` ${inspect({ numChunks, totalSize, root })}`);
     return disposable(HashTree);
 }

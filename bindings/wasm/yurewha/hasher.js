@@ -4,16 +4,17 @@ import { bytes, dataOf, mustBe, u64 } from "./arguments.js";
 import { InvalidArguments } from "./errors.js";
 import { HASH_LENGTH, thirtyTwo } from "./hash.js";
 import { AREA } from "./library.js";
-import { inspected, showing } from "./shown.js";
-import { readAll } from "./streams.js";
+import { inspected, showing, textless } from "./shown.js";
+import { Source, readAll } from "./streams.js";
 
 /** The size of `yurewha_hasher`, which holds no pointers: a copy of its bytes is a copy of the hasher. */
 const STATE_LENGTH = 2048;
 /** How many bytes and how many chunks go to the module at once, so that they fit its area. */
-const PIECE = AREA / 2;
+export const PIECE = AREA / 2;
 const MOST_CHUNKS = 4096;
 /** Pieces of a stream that are shorter are gathered into pieces of this length, since a call costs as much as hashing some kilobytes. */
 const SHORT = 1 << 16;
+const CUTS = "be numbers, one after another, or a chunker that gives them";
 
 /** The class `Hasher`, whose state is a copy in JavaScript's memory, so that there is nothing to free. */
 function makeHasher(library, { result }) {
@@ -68,6 +69,7 @@ function makeHasher(library, { result }) {
         }
     }
     const show = showing(Hasher, ["hash"]);
+    textless(Hasher, "Hasher", "its digest()");
     inspected(Hasher, "Hasher", ({ count, hash }, inspect) => ` ${inspect({ count, hash })}`);
     return Hasher;
 
@@ -80,7 +82,7 @@ function makeHasher(library, { result }) {
 }
 
 /** Pieces of a message, which a hasher gets in longer ones. */
-class Gathered {
+export class Gathered {
     #hasher;
     #room = new Uint8Array(SHORT);
     #filled = 0;
@@ -150,39 +152,23 @@ class Chunked {
     }
 }
 
-/** The pieces of a stream, which is cancelled if it isn't read to its end. */
-async function* piecesOf(stream) {
-    const reader = stream.getReader();
-    try {
-        for (let it = await reader.read(); !it.done; it = await reader.read()) yield it.value;
-    } finally {
-        await reader.cancel();
-        reader.releaseLock();
-    }
-}
-
-/** The pieces of a `Blob`, of a stream or of what gives pieces. */
-const piecesFrom = (source) =>
-    source instanceof Blob ? piecesOf(source.stream()) : typeof source?.getReader === "function" ? piecesOf(source) : source;
-
 /** What is left of a message that comes in pieces: those that came and are not hashed yet, and those that did not come. */
 class Left {
     /** How many bytes were hashed, and how many came. */
     place = 0;
     end = 0;
-    #coming;
+    #source;
     #came = [];
     #begin;
 
     constructor(source, begin) {
-        const pieces = piecesFrom(source);
-        this.#coming = pieces[Symbol.asyncIterator]?.() ?? pieces[Symbol.iterator]();
+        this.#source = source;
         this.#begin = begin;
     }
 
     /** Waits for the pieces, one after another. What is hashed is a copy, because the caller's may change before a chunk ends. */
     async *pieces() {
-        for (let it = await this.#coming.next(); !it.done; it = await this.#coming.next()) {
+        for (let it = await this.#source.next(); !it.done; it = await this.#source.next()) {
             const piece = bytes(it.value, "a piece of data");
             if (piece.length === 0) continue;
             this.#came.push(piece.slice());
@@ -209,11 +195,6 @@ class Left {
         if (this.place < end && end < Infinity) throw new InvalidArguments(mustBe("a cut", `be at most the number of bytes, ${this.end}`, end));
         return [message.digest(), this.place - from];
     }
-
-    /** Lets the source go, which may have more. */
-    async close() {
-        await this.#coming.return?.();
-    }
 }
 
 /** Offsets in a message of some length, as Numbers, none of which is less than the one before it. */
@@ -227,8 +208,8 @@ function checkedOffsets(offsets, length) {
     return offsets.map(Number);
 }
 
-/** `Hasher`, and the calls that hash bytes at once or from a stream. */
-export function makeHashing(library, hashes) {
+/** `Hasher`, and the calls that hash bytes at once or from a stream. `xetCuts` is the chunker of those that get no cuts. */
+export function makeHashing(library, hashes, xetCuts) {
     const Hasher = makeHasher(library, hashes);
     const whole = (name, begin) => (data) => {
         const message = dataOf(data, "data");
@@ -265,8 +246,7 @@ export function makeHashing(library, hashes) {
 
     async function hashStream(source) {
         const message = new Gathered(new Hasher());
-        if (typeof source?.getReader === "function") await readAll(source, (piece) => message.add(piece));
-        else for await (const piece of source) message.add(piece);
+        await readAll(source, (piece) => message.add(piece));
         return message.digest();
     }
 
@@ -276,30 +256,35 @@ export function makeHashing(library, hashes) {
         const places = checkedOffsets(listed, isBlob ? source.size : Number.MAX_SAFE_INTEGER);
         const [first, last] = [places[0], places.at(-1)];
         const chunks = new Chunked(places, () => new Gathered(new Hasher()), isBlob ? first : 0);
-        for await (const piece of piecesFrom(isBlob ? source.slice(first, last) : source)) {
+        await readAll(isBlob ? source.slice(first, last) : source, (piece) => {
             chunks.add(piece);
-            if (chunks.at >= last) break;
-        }
+            return chunks.at >= last;
+        });
         if (chunks.at < last) throw new InvalidArguments(mustBe("the number of bytes", `be at least the last offset, ${last}`, chunks.at));
         return chunks.hashes;
     }
 
-    async function* hashCuts(source, cuts) {
-        const left = new Left(source, () => new Gathered(new Hasher()));
+    async function* hashCuts(source, cuts = xetCuts) {
         const isChunker = typeof cuts === "function";
+        const pieces = new Source(source);
+        const left = new Left(pieces, () => new Gathered(new Hasher()));
+        let ends;
         try {
-            for await (const cut of isChunker ? cuts(left.pieces()) : cuts) {
-                const end = Number(u64(cut, "a cut"));
+            ends = new Source(isChunker ? cuts(left.pieces()) : cuts, isChunker ? "what a chunker returns" : "cuts", CUTS);
+            for (let it = await ends.next(); !it.done; it = await ends.next()) {
+                const end = Number(u64(it.value, "a cut"));
                 if (end < left.place) throw new InvalidArguments(mustBe("a cut", `be at least the one before it, ${left.place}`, end));
                 if (isChunker && end > left.end) throw new InvalidArguments(mustBe("a chunker's cut", `be at most the number of bytes that it was given, ${left.end}`, end));
                 yield await left.chunk(end);
             }
             if (await left.hasMore()) yield await left.chunk();
         } finally {
-            await left.close();
+            ends?.leave();
+            pieces.leave();
         }
     }
 
+    const chunksOf = (source) => hashCuts(source);
     const internalNodeHash = whole("yurewha_internal_node_hash", () => Hasher.internalNode());
-    return { Hasher, dataHash, dataHashes, hashChunks, hashCuts, hashStream, internalNodeHash };
+    return { Hasher, chunksOf, dataHash, dataHashes, hashChunks, hashCuts, hashStream, internalNodeHash };
 }

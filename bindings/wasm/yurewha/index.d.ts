@@ -1,13 +1,14 @@
 /**
- * Computes the hashes by which the Hugging Face Xet store names chunks and files. Also merges the subtrees of adjacent ranges
- * of chunks without the chunks. It doesn't cut files into chunks.
+ * Cuts files into chunks as the Hugging Face Xet store does, and computes the hashes by which the store names chunks and files. Also
+ * merges the subtrees of adjacent ranges of chunks without the chunks.
  *
  * The algorithm is proved. Its translation to WebAssembly and this package around it are only tested.
  *
  * Examples begin with `const y = await load();` and end with what they print.
  *
  * Objects keep their bytes in private members. What comparisons need is an own property of each, so `deepStrictEqual` of two
- * objects compares their values. A structured clone is a plain object with these properties, and no call takes it. To hand an
+ * objects compares their values. A structured clone is a plain object with these properties, and no call takes it. A conversion to text
+ * throws a `TypeError`, but for a `Hash`: "[object Object]" would be wrong data in a template, a `Response` or a `Blob`. To hand an
  * object to a worker, send what it can be made of again: `bytes` of a `Hash`, `Chunks` or `RangeProof`, `toJSON()` of a
  * `Subtree` or `Session`, `saved` of a `HashIndex`.
  */
@@ -28,6 +29,11 @@ export type Chunk = readonly [hash: Hash, size: U64];
 
 /** The data of a chunk, or of a range of chunks. Of an `ArrayBuffer`, all bytes are taken. */
 export type Data = Uint8Array | ArrayBuffer;
+
+/** A file, or what gives pieces of data: a stream, such as the `body` of a `Response` or a stream of Node, or another iterable. Each piece is
+ * copied or hashed before the next is asked for, so the source may use its memory again. Anything else is a `TypeError`, as is a piece that
+ * isn't a `Uint8Array`. A source that isn't read to its end is let go: a stream is cancelled. No call waits for that, or fails with it. */
+export type Pieces = Blob | ReadableStream<Uint8Array> | AsyncIterable<Uint8Array> | Iterable<Uint8Array>;
 
 /** A list of chunks. */
 export type ChunkList = Chunks | Iterable<Chunk>;
@@ -53,6 +59,8 @@ export function load(source?: Source | PromiseLike<Source>): Promise<Yurewha>;
 export interface Yurewha {
     readonly Hash: HashConstructor;
     readonly Chunks: ChunksConstructor;
+    readonly Chunker: ChunkerConstructor;
+    readonly FileHasher: FileHasherConstructor;
     readonly Hasher: HasherConstructor;
     readonly Subtree: SubtreeConstructor;
     readonly Session: SessionConstructor;
@@ -99,9 +107,9 @@ export interface Yurewha {
      */
     dataHashes(data: Data, offsets: Iterable<U64>): Hash[];
 
-    /** Returns the hash of each chunk of a file or of what gives pieces, as `hashStream` takes them: chunk k begins at offset k and ends
-     * at the next one. Of a `Blob` or `File`, only the bytes between the first and the last offset are read. Of a stream, bytes
-     * before the first are skipped, and it is cancelled after the last. Nothing is held but a piece.
+    /** Returns the hash of each chunk of a file or of what gives pieces: chunk k begins at offset k and ends at the next one. Of a `Blob` or
+     * `File`, only the bytes between the first and the last offset are read. Of a stream, bytes before the first are skipped, and it is
+     * let go after the last. Nothing is held but a piece.
      * @throws InvalidArguments there is no offset, an offset is less than the one before it, or the data ends before the last
      *
      * @example
@@ -110,15 +118,40 @@ export interface Yurewha {
      * console.log(first.hex()); // fc2d9e764137e94a0c4d7bdc0b584e73a34945fbf4efeef155acc8927c1399ff
      * ```
      */
-    hashChunks(
-        source: Blob | ReadableStream<Uint8Array> | AsyncIterable<Uint8Array> | Iterable<Uint8Array>, offsets: Iterable<U64>,
-    ): Promise<Hash[]>;
+    hashChunks(source: Pieces, offsets: Iterable<U64>): Promise<Hash[]>;
+
+    /** Returns the file hash of a file or of what gives pieces: the hash by which Xet, and so the Hub, names a file of these bytes. Each byte
+     * is read once, and what is held doesn't grow with the file.
+     * @throws InvalidArguments the salt has another length
+     * @throws Error a `Blob` gives more or fewer bytes than its size, as it may if its file changes meanwhile. The message has its name.
+     *
+     * @example
+     * ```js
+     * const hash = await y.hashFile(new Blob(["all bytes of a file"]), { onProgress: console.log }); // 19
+     * console.log(hash.hex()); // 35056c226e0c308e0a54bba3a9e68b4cc31b107a7a6eab24df760e16698c7e9b
+     * ```
+     */
+    hashFile(source: Pieces, options?: HashFileOptions): Promise<Hash>;
+
+    /** Does what `hashFile` does, of a `Blob` or `File` alone. Anything else is a `TypeError`. */
+    hashBlob(blob: Blob, options?: HashFileOptions): Promise<Hash>;
+
+    /** Yields the hash and the size of each chunk into which Xet cuts a file or what gives pieces. It is `hashCuts` without cuts.
+     *
+     * @example
+     * ```js
+     * const chunks = [];
+     * for await (const chunk of y.chunksOf(new Blob([new Uint8Array(140_000)]))) chunks.push(chunk);
+     * console.log(chunks.map(([hash, size]) => size), `${chunks[0][0]}`.slice(0, 8)); // [ 131072, 8928 ] 2e39f13c
+     * ```
+     */
+    chunksOf(source: Pieces): AsyncGenerator<[hash: Hash, size: number], void, undefined>;
 
     /** Yields the hash and the size of each chunk of a file or of what gives pieces, once the chunk came. Each byte is read once.
      *
      * `cuts` says where chunks end, in bytes from the beginning. The last chunk ends with the data. `cuts` gives numbers, or is a chunker: a
      * function that gets the pieces as they come, and gives the numbers. Until it has given a cut, copies of the pieces after the last one
-     * are kept. Nothing here is Xet's chunker.
+     * are kept. Without `cuts`, the data is cut as Xet does.
      * @throws InvalidArguments a cut is less than the one before it, is past the end, or is one of a chunker that wasn't given so many bytes
      *
      * @example
@@ -135,13 +168,12 @@ export interface Yurewha {
      * ```
      */
     hashCuts(
-        source: Blob | ReadableStream<Uint8Array> | AsyncIterable<Uint8Array> | Iterable<Uint8Array>,
-        cuts: Iterable<U64> | AsyncIterable<U64> | ((pieces: AsyncIterable<Uint8Array>) => Iterable<U64> | AsyncIterable<U64>),
+        source: Pieces,
+        cuts?: Iterable<U64> | AsyncIterable<U64> | ((pieces: AsyncIterable<Uint8Array>) => Iterable<U64> | AsyncIterable<U64>),
     ): AsyncGenerator<[hash: Hash, size: number], void, undefined>;
 
-    /** Returns the hash of a chunk whose data comes in pieces, from a stream, such as that of a `Blob` or of Node, or from any other
-     * iterable. It is the same as that of `dataHash`. A piece that isn't a `Uint8Array` is a `TypeError`; the stream is then
-     * cancelled. Short pieces are gathered, so that many of them take hardly longer than a few long ones.
+    /** Returns the hash of a chunk whose data comes in pieces. It is the same as that of `dataHash`. Short pieces are gathered, so that many
+     * of them take hardly longer than a few long ones.
      *
      * @example
      * ```js
@@ -149,7 +181,7 @@ export interface Yurewha {
      * console.log(hash.hex()); // fc2d9e764137e94a0c4d7bdc0b584e73a34945fbf4efeef155acc8927c1399ff
      * ```
      */
-    hashStream(source: ReadableStream<Uint8Array> | AsyncIterable<Uint8Array> | Iterable<Uint8Array>): Promise<Hash>;
+    hashStream(source: Pieces): Promise<Hash>;
 
     /**
      * Returns the root of a list of chunks. With no chunks it is the default hash. With one chunk it is its own hash. With more
@@ -282,6 +314,9 @@ export interface Chunks extends Iterable<[hash: Hash, size: bigint]> {
 
     /** Returns pairs of a hash's hex text and a size's decimal digits. Sizes are texts because they may be more than 2^53. */
     toJSON(): [hex: string, size: string][];
+
+    /** Throws a `TypeError`: use `bytes` or `toJSON`. */
+    toString(): never;
 }
 
 export interface ChunksConstructor {
@@ -325,6 +360,9 @@ export interface Hasher {
     digest(): Hash;
 
     clone(): Hasher;
+
+    /** Throws a `TypeError`: use `digest`. */
+    toString(): never;
 }
 
 export interface HasherConstructor {
@@ -338,6 +376,95 @@ export interface HasherConstructor {
     /** Makes a hasher under a key of 32 bytes.
      * @throws InvalidArguments the key has another length */
     keyed(key: Uint8Array): Hasher;
+}
+
+/**
+ * Where Xet cuts a file into chunks. A chunk has 8192 to 131072 bytes, but the last of a file may have fewer. The chunks are the same in
+ * whatever pieces the file comes. It holds no memory of the module, so there is nothing to free.
+ *
+ * @example
+ * ```js
+ * const [chunker, ends] = [new y.Chunker(), []];
+ * let piece = new Uint8Array(300_000);
+ * for (let end; (end = chunker.nextBoundary(piece)) !== undefined; piece = piece.subarray(end)) ends.push(end);
+ * console.log(ends, chunker.taken); // [ 131072, 131072 ] 37856
+ * ```
+ */
+export interface Chunker {
+    /** How many bytes of the chunk were taken so far. If the file ends here, and there are any, they are its last chunk. */
+    readonly taken: number;
+
+    /** What comparisons see: a copy of the state, whose form may change with a version. */
+    readonly state: Uint8Array;
+
+    /** Takes more of the file. If the chunk ends in the data, returns after how many bytes of it, and takes no more than these: the next call
+     * begins with what follows. Otherwise takes all of it, and returns undefined. A chunk may end with the data. */
+    nextBoundary(data: Data): number | undefined;
+
+    clone(): Chunker;
+
+    /** Throws a `TypeError`: use `taken`. */
+    toString(): never;
+}
+
+export interface ChunkerConstructor {
+    /** Makes a chunker at the beginning of a file, or of any chunk. */
+    new (): Chunker;
+    readonly prototype: Chunker;
+}
+
+/**
+ * A hasher for a file that comes in pieces. It cuts the bytes into chunks as Xet does, hashes these, and keeps none of the bytes.
+ * `hashFile` uses one.
+ *
+ * A call that throws leaves the hasher unchanged. Any call may throw `OutOfMemory`, if the memory can't grow.
+ *
+ * @example
+ * ```js
+ * const hasher = new y.FileHasher().update(new Uint8Array(200_000)).update(new Uint8Array(100_000));
+ * console.log(hasher.fileHash().hex()); // 3d7bd4178bc2851ba07d59c24c3a88ae0c7220e9920d6c5c6a06b01556d46404
+ * console.log(hasher.size); // 300000n
+ * hasher.free();
+ * ```
+ */
+export interface FileHasher extends Freed {
+    /** How many bytes the file has so far. */
+    readonly size: bigint;
+
+    /** What `fileHash` returns without a salt. */
+    readonly hash: Hash;
+
+    /** Appends a piece to the file. The module's memory holds a copy of it meanwhile, so give a long file in pieces.
+     * @throws SizeOverflow the file would have more than 2^64 - 1 bytes */
+    update(data: Data): this;
+
+    /** Returns the root of the chunks of the file so far. More pieces can follow. */
+    root(): Hash;
+
+    /** Returns the file hash of the file so far, without a salt or under one of 32 bytes. More pieces can follow.
+     * @throws InvalidArguments the salt has another length */
+    fileHash(salt?: Uint8Array): Hash;
+
+    /** Throws a `TypeError`: use `root` or `fileHash`. */
+    toString(): never;
+}
+
+export interface FileHasherConstructor {
+    /** Makes a hasher of the empty file. */
+    new (): FileHasher;
+    readonly prototype: FileHasher;
+}
+
+/** How a file is hashed. */
+export interface HashFileOptions {
+    /** A salt of 32 bytes for the file hash. */
+    readonly salt?: Uint8Array;
+
+    /** Once it is aborted, the source is let go, and the call rejects with the signal's reason. */
+    readonly signal?: AbortSignal;
+
+    /** Gets how many bytes came so far, after each piece. The call rejects with what it throws. */
+    readonly onProgress?: (bytes: number) => void;
 }
 
 /** An object that can be freed. Any other call of a freed object throws `EmptyHandle`. */
@@ -416,6 +543,9 @@ export interface Subtree extends Freed {
     toJSON(): string;
 
     toFlat(): Flat;
+
+    /** Throws a `TypeError`: use `toJSON`. */
+    toString(): never;
 }
 
 export interface SubtreeConstructor {
@@ -557,6 +687,9 @@ export interface Session extends Freed {
 
     /** Returns a session with the same chunks, which knows the same hashes, and keeps hashes if this one does. */
     clone(): Session;
+
+    /** Throws a `TypeError`: use `toJSON`. */
+    toString(): never;
 }
 
 export interface SessionOptions {
@@ -634,6 +767,9 @@ export interface HashIndex extends Freed {
 
     /** Returns an index in which each hash has the same number. */
     clone(): HashIndex;
+
+    /** Throws a `TypeError`: use `saved`. */
+    toString(): never;
 }
 
 export interface HashIndexConstructor {
@@ -706,6 +842,9 @@ export interface HashTree extends Freed {
      * ```
      */
     diff(other: HashTree): Difference | null;
+
+    /** Throws a `TypeError`: use `root` or `fileHash`. */
+    toString(): never;
 }
 
 /** Where two files differ: the chunks from `first` up to, but not including, `end` of the one stand where the other has its chunks from
@@ -788,6 +927,9 @@ export interface RangeProof {
     toJSON(): string;
 
     toFlat(): FlatProof;
+
+    /** Throws a `TypeError`: use `bytes` or `toJSON`. */
+    toString(): never;
 }
 
 export interface RangeProofConstructor {
@@ -882,13 +1024,11 @@ export interface OpenedRange extends Freed {
     /**
      * Returns a stream that takes the data of the range in any pieces, such as the body of a response, and passes on each chunk once it
      * has checked. So whatever comes out of it is part of the file, from `begins(0)` on. It fails with `ProofMismatch` at the first chunk
-     * that isn't the file's, and if the data ends too early or doesn't end with the range. A piece that isn't a `Uint8Array` is a
-     * `TypeError`.
+     * that isn't the file's, or that is longer than `chunkLimit`, and if the data ends too early or doesn't end with the range. A piece
+     * that isn't a `Uint8Array` is a `TypeError`. The stream copies what it keeps, so the source may use its memory again.
      *
      * The stream doesn't know which bytes were asked for, and a server may send another part of the file. So compare `begins` of the
-     * first chunk and `ends` of the last one with the places that you asked for. The stream keeps the data of one chunk, which a
-     * stranger's proof may name with any size; compare that, too, if you know how long a chunk may be. Don't free the range before the
-     * stream has ended.
+     * first chunk and `ends` of the last one with the places that you asked for. Don't free the range before the stream has ended.
      *
      * @example
      * ```js
@@ -900,7 +1040,16 @@ export interface OpenedRange extends Freed {
      * range.free();
      * ```
      */
-    checking(): TransformStream<Uint8Array, Uint8Array>;
+    checking(options?: CheckingOptions): TransformStream<Uint8Array, Uint8Array>;
+
+    /** Throws a `TypeError`: use `read` or `proof`. */
+    toString(): never;
+}
+
+export interface CheckingOptions {
+    /** How many bytes a chunk may have; by default 1 MiB, and Xet's have at most 128 KiB. The stream keeps the data of one chunk until it
+     * has checked it, and how long a chunk is is the proof's own word. So a server can't make a reader keep whatever it sends. */
+    readonly chunkLimit?: U64;
 }
 
 export interface OpenedRangeConstructor {
@@ -908,7 +1057,7 @@ export interface OpenedRangeConstructor {
 }
 
 /**
- * A part of a file that is somewhere else, or the whole file. It is read like a `Blob`, and has the same members. What is read is
+ * A part of a file that is somewhere else, or the whole file. It has a `Blob`'s members, but isn't one. What is read is
  * fetched then, and checked against the file hash before it is handed on. Neither the data nor the proofs have to come from somebody
  * trusted: each file with this hash has these bytes at this place, or two messages with one BLAKE3 hash were found.
  *
@@ -916,8 +1065,9 @@ export interface OpenedRangeConstructor {
  * of the request if that fails; and with `InvalidText` or `InvalidProof` if what comes is no proof. It hands on nothing then, and the
  * next call asks again. A stream has handed on the pieces before, which were checked.
  *
- * It isn't an instance of `Blob`, so what the browser itself implements, such as `URL.createObjectURL`, doesn't take it. Code that calls
- * its members does. What it keeps is in the module's memory, and goes some time after nobody can reach the file or a part of it. So there is
+ * Code that calls a `Blob`'s members takes it. What the browser itself implements doesn't: `new Response(file)`, `new Blob([file])` and
+ * `URL.createObjectURL(file)` throw a `TypeError`. Take `new Response(file.stream())`, or `new Blob([await file.arrayBuffer()])`, which also
+ * gets a URL. What it keeps is in the module's memory, and goes some time after nobody can reach the file or a part of it. So there is
  * nothing to free.
  *
  * @example
@@ -949,7 +1099,7 @@ export interface VerifiedBlob {
     slice(start?: number, end?: number, type?: string): VerifiedBlob;
 
     /** Returns a stream of the bytes, for readers with and without buffers of their own. At most 4 MiB are fetched at once, and one such
-     * piece ahead of the reader. To cancel the stream aborts its requests. */
+     * piece ahead of the reader. To cancel the stream aborts its requests, with the same reason, and makes no others. */
     stream(): ReadableStream<Uint8Array>;
 
     /** Returns the bytes. */
@@ -960,6 +1110,9 @@ export interface VerifiedBlob {
 
     /** Returns the bytes as UTF-8 text. */
     text(): Promise<string>;
+
+    /** Throws a `TypeError`: use `stream`, or await `arrayBuffer`. */
+    toString(): never;
 }
 
 /** What a fetch or a proof may come as. The body of a response is read only as far as it may go. */

@@ -1,6 +1,8 @@
 // Everything that the package has, over one library.
 
+import { makeChunker } from "./chunker.js";
 import { makeChunks } from "./chunks.js";
+import { makeFileHashing } from "./file_hasher.js";
 import { makeHash } from "./hash.js";
 import { makeHashIndex } from "./hash_index.js";
 import { makeHashTree } from "./hash_tree.js";
@@ -16,6 +18,7 @@ import { makeVerifiedBlob } from "./verified_blob.js";
 export function instanceOver(library) {
     const hashes = makeHash(library);
     const lists = makeChunks(hashes);
+    const { Chunker, xetCuts } = makeChunker(library);
     const subtrees = makeSubtree(library, hashes, lists);
     const ranges = makeOpenedRange(library);
     const HashTree = makeHashTree(library, hashes, lists, (...given) => proofs.written(...given));
@@ -23,6 +26,7 @@ export function instanceOver(library) {
     return Object.freeze({
         Hash: hashes.Hash,
         Chunks: lists.Chunks,
+        Chunker,
         Subtree: subtrees.Subtree,
         Session: makeSession(library, hashes, lists, subtrees),
         HashIndex: makeHashIndex(library, hashes),
@@ -30,7 +34,8 @@ export function instanceOver(library) {
         RangeProof: proofs.RangeProof,
         OpenedRange: ranges.OpenedRange,
         ...makeVerifiedBlob(hashes, proofs, makeReader(library, proofs.overProof)),
-        ...makeHashing(library, hashes),
+        ...makeHashing(library, hashes, xetCuts),
+        ...makeFileHashing(library, hashes),
         ...makeRoots(library, hashes, lists),
     });
 }

@@ -3,35 +3,11 @@
 import { bytes, dataOf, u64 } from "./arguments.js";
 import { InvalidArguments, ProofMismatch, STATUS } from "./errors.js";
 import { Handle, Handles, disposable } from "./handle.js";
-import { inspected, showing } from "./shown.js";
+import { inspected, showing, textless } from "./shown.js";
+import { Room } from "./streams.js";
 
-/** Bytes that arrive in pieces, of which whole chunks are taken. */
-class Pieces {
-    #kept = [];
-    length = 0;
-
-    add(piece) {
-        this.#kept.push(piece);
-        this.length += piece.length;
-    }
-
-    /** Returns the first `length` bytes, which aren't kept any more. */
-    take(length) {
-        const taken = new Uint8Array(length);
-        let [used, at] = [0, 0];
-        while (at < length) {
-            const piece = this.#kept[used];
-            const part = piece.subarray(0, length - at);
-            taken.set(part, at);
-            at += part.length;
-            if (part.length === piece.length) used++;
-            else this.#kept[used] = piece.subarray(part.length);
-        }
-        this.#kept.splice(0, used);
-        this.length -= length;
-        return taken;
-    }
-}
+/** How many bytes a chunk of a stream may have by default. */
+const CHUNK_LIMIT = 1 << 20;
 
 /** The class `OpenedRange` over a library, and `opened`, the range that a call writes to its handle. */
 export function makeOpenedRange(library) {
@@ -111,28 +87,32 @@ export function makeOpenedRange(library) {
             throw new ProofMismatch(this.#whyRefused(BigInt(from), BigInt(to), BigInt(dataOf(data, "data").length)));
         }
 
-        checking() {
-            const pieces = new Pieces();
+        checking({ chunkLimit = CHUNK_LIMIT } = {}) {
+            const limit = u64(chunkLimit, "a chunk limit");
+            this.#handle.mustBeOwned();
             let next = 0;
-            /** The length of the next chunk, or null after the last one. */
-            let length = this.#lengthOf(next);
-            /** Passes on each chunk that is there. */
-            const pass = (controller) => {
-                for (; length !== null && length <= pieces.length; length = this.#lengthOf(++next)) {
-                    const data = pieces.take(length);
+            /** What came of the next chunk. It is undefined before the first piece, and null after the last chunk. */
+            let room;
+            /** Passes on each chunk that a piece makes whole. */
+            const pass = (piece, controller) => {
+                if (room === undefined) room = this.#roomOf(next, limit);
+                for (let rest = piece; ; room = this.#roomOf(++next, limit)) {
+                    if (room === null && rest.length > 0) throw new ProofMismatch("there is more data than that of the range");
+                    if (room === null) return;
+                    rest = room.add(rest);
+                    if (!room.isFull) return;
+                    const data = room.bytes;
                     if (this.check(next, data) === null) throw new ProofMismatch(`the data of chunk ${next} of the range isn't the file's`);
                     if (data.length > 0) controller.enqueue(data);
                 }
-                if (length === null && pieces.length > 0) throw new ProofMismatch("there is more data than that of the range");
             };
             return new TransformStream({
                 transform(piece, controller) {
-                    pieces.add(bytes(piece, "a piece of data"));
-                    pass(controller);
+                    pass(bytes(piece, "a piece of data"), controller);
                 },
                 flush(controller) {
-                    pass(controller);
-                    if (length !== null) throw new ProofMismatch(`the data ends before chunk ${next} of the range is whole`);
+                    pass(new Uint8Array(), controller);
+                    if (room !== null) throw new ProofMismatch(`the data ends before chunk ${next} of the range is whole`);
                 },
             });
         }
@@ -141,9 +121,13 @@ export function makeOpenedRange(library) {
             this.#handle.free();
         }
 
-        #lengthOf(chunk) {
+        /** Room for the data of a chunk, or null if there is no such chunk. How long it is is the proof's word. */
+        #roomOf(chunk, limit) {
             const places = this.#bytesOf(chunk);
-            return places && Number(places[1] - places[0]);
+            if (places === null) return null;
+            const length = places[1] - places[0];
+            if (length > limit) throw new ProofMismatch(`by the proof, chunk ${chunk} of the range has ${length} bytes, more than chunkLimit, ${limit}`);
+            return new Room(Number(length));
         }
 
         /** Why `read` refused data of some length. */
@@ -178,6 +162,7 @@ export function makeOpenedRange(library) {
         }
     }
     const show = showing(OpenedRange, ["proof"]);
+    textless(OpenedRange, "OpenedRange", "its read() or proof");
     inspected(OpenedRange, "OpenedRange", (range, inspect) => {
         const { fileSize, numChunks } = range;
         return ` ${inspect({ fileSize, numChunks, begins: range.begins(0), ends: range.ends(numChunks - 1) })}`;

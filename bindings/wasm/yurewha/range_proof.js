@@ -5,7 +5,7 @@ import { CHUNK_LENGTH } from "./chunks.js";
 import { InvalidArguments, InvalidProof, ProofTooLong, STATUS } from "./errors.js";
 import { HASH_LENGTH, thirtyTwo } from "./hash.js";
 import { LEVEL_LENGTH, packedLevels, unpackedLevels } from "./levels.js";
-import { inspected, showing } from "./shown.js";
+import { inspected, showing, textless } from "./shown.js";
 
 const MOST_LEVELS = 64;
 /** The most nodes beside a range: eight on each side of each level. */
@@ -163,6 +163,7 @@ export function makeRangeProof(library, { rawOf }, { Chunks, packedOf }, { opene
         }
     }
     const show = showing(RangeProof, ["bytes"]);
+    textless(RangeProof, "RangeProof", "its bytes or toJSON()");
     inspected(RangeProof, "RangeProof", ({ chunks, numLevels }, inspect) => ` ${inspect({ chunks, numLevels })}`);
 
     /** The arguments of flat lists that stand at two places. */

@@ -5,7 +5,7 @@ import { CHUNK_LENGTH } from "./chunks.js";
 import { STATUS, SessionGap, SessionOverlap, sessionSizes } from "./errors.js";
 import { Handle, Handles, disposable } from "./handle.js";
 import { HASH_LENGTH, thirtyTwo } from "./hash.js";
-import { inspected, showing } from "./shown.js";
+import { inspected, showing, textless } from "./shown.js";
 
 const KEEPS_NONE = "this session keeps no hashes";
 const STRICT = "be JSON in which no object has a member twice";
@@ -294,6 +294,7 @@ export function makeSession(library, { Hash, rawOf, result, packedHashes, unpack
         }
     }
     const show = showing(Session, ["saved"]);
+    textless(Session, "Session", "its toJSON()");
     inspected(Session, "Session", ({ numChunks, totalSize, numRuns }, inspect) => ` ${inspect({ numChunks, totalSize, numRuns })}`);
     return disposable(Session);
 }

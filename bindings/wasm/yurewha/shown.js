@@ -1,4 +1,4 @@
-// What others see of an object whose members are private: comparisons, structured clones, and Node's console.
+// What others see of an object whose members are private: comparisons, structured clones, conversions to text, and Node's console.
 
 const INSPECT = Symbol.for("nodejs.util.inspect.custom");
 
@@ -7,6 +7,17 @@ export function showing(kind, names) {
     const getters = Object.getOwnPropertyDescriptors(kind.prototype);
     const shown = names.map((name) => [name, { ...getters[name], enumerable: true }]);
     return (object) => shown.forEach(([name, getter]) => Object.defineProperty(object, name, getter));
+}
+
+/**
+ * Lets a conversion of an object of a class to text throw. It would be "[object Object]", which a Response or a Blob would take for data.
+ * `use` says what to use.
+ */
+export function textless(kind, name, use) {
+    const value = () => {
+        throw new TypeError(`${name} has no conversion to text, so no Response, Blob or template takes it: use ${use}`);
+    };
+    Object.defineProperty(kind.prototype, "toString", { value, writable: true, configurable: true });
 }
 
 /** Lets Node's console show objects of a class as `tell` says. An object that can't be read any more is shown by its error. */

@@ -6,7 +6,7 @@ import { InvalidArguments } from "./errors.js";
 import { HANDLE_LENGTH, Handle, Handles, disposable } from "./handle.js";
 import { thirtyTwo } from "./hash.js";
 import { LEVEL_LENGTH, packedLevels, unpackedLevels } from "./levels.js";
-import { inspected, showing } from "./shown.js";
+import { inspected, showing, textless } from "./shown.js";
 
 const flag = (value) => (value ? 1 : 0);
 const misplaced = "of adjacent ranges, only the first may be marked at its start, and only the last at its end";
@@ -169,6 +169,7 @@ export function makeSubtree(library, { Hash, rawOf, result, hmac }, { Chunks, pa
         }
     }
     const show = showing(Subtree, ["atStart", "levels", "nodes", "atEnd"]);
+    textless(Subtree, "Subtree", "its toJSON()");
     inspected(Subtree, "Subtree", ({ atStart, atEnd, totalSize, numLevels, numNodes }, inspect) => {
         return ` ${inspect({ atStart, atEnd, totalSize, numLevels, numNodes })}`;
     });

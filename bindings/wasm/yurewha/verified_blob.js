@@ -1,10 +1,10 @@
-// Files that somebody else keeps. They are read like a Blob, and nothing is handed on that wasn't checked.
+// Files that somebody else keeps. They have a Blob's members, but are none. Nothing is handed on that wasn't checked.
 
 import { dataOf, text, u64, wrongType } from "./arguments.js";
 import { outOfMemory } from "./errors.js";
 import { HASH_LENGTH, thirtyTwo } from "./hash.js";
 import { PROOF_LIMIT } from "./range_proof.js";
-import { inspected, showing } from "./shown.js";
+import { inspected, showing, textless } from "./shown.js";
 import { bodyOf, readAll } from "./streams.js";
 
 /** How many bytes are fetched and checked at once, if more are asked for. */
@@ -53,6 +53,7 @@ class RemoteFile {
 
     /** The bytes from one place up to another, once they are fetched and checked. Their chunks are kept. */
     async #fetched(start, end, signal) {
+        signal.throwIfAborted();
         const part = this.#reader.open(await this.#prove(start, end, signal), start, end, this.#chunkLimit);
         try {
             const data = part.check(dataOf(await this.#received(part, signal), "what fetch returns"));
@@ -66,6 +67,8 @@ class RemoteFile {
     /** What comes as the data of a part. */
     async #received({ begin, end, fileSize }, signal) {
         if (fileSize > Number.MAX_SAFE_INTEGER) throw new RangeError(`the file has ${fileSize} bytes, and a Blob at most 2^53 - 1`);
+        // The proof may have come after nobody waited any more.
+        signal.throwIfAborted();
         const received = await this.#fetch(Number(begin), Number(end), signal);
         return received instanceof Response ? bodyOf(received, Number(end - begin)) : received;
     }
@@ -183,6 +186,7 @@ export function makeVerifiedBlob({ rawOf }, { RangeProof }, { Reader }) {
         }
     }
     const show = showing(VerifiedBlob, ["fileHash", "start", "size", "type"]);
+    textless(VerifiedBlob, "VerifiedBlob", "await it.arrayBuffer(), or in a Response it.stream()");
     inspected(VerifiedBlob, "VerifiedBlob", ({ start, size, type, fileHash }, inspect) => ` ${inspect({ start, size, type, fileHash })}`);
     return { VerifiedBlob };
 

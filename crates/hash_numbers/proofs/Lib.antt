@@ -1,1 +1,4 @@
+pub mod Entries
+pub mod Finding
 pub mod Numbers
+pub mod Places

@@ -1,22 +1,23 @@
 //! An index of hashes: a number for each of some hashes.
 
 ghost use Rattle.std.specs.Prelude.{◌≡◌, ◌++◌, [], length, ℕ, IfOk, OnErr, OnOk};
-ghost use Rattle.std.specs.Map.Iter.{ShowsInOrder, deref_pair};
+ghost use Rattle.std.specs.Iterator.Adapters.{IterYieldsInOrder};
+ghost use Rattle.std.specs.Slice.Iter.{iter_rest};
 ghost use Rattle.hash_numbers.specs.Index.{number_of, AreSame, Hash, Inserts, IsIndex, SameNumbers};
 ghost use Rattle.hash_numbers.specs.Steps.Removing.{IsWithout};
 
+use crate::table::HashTable;
 use std::alloc::{AllocError, Allocator, Global};
-use std::collections::hash_map::Iter;
 use std::marker::Model;
+use std::slice::Iter;
 use xet_hash::data_hash::MerkleHash;
-use xet_hash::passthrough_hashmap::PassThroughHashMap;
 
 /// A number for each of some hashes.
 ///
 /// In a contract it is the list of its entries, each a hash and its number, in no particular order.
 #[derive(Drop)]
 pub struct HashIndex<A: Allocator = Global> {
-    map: PassThroughHashMap<MerkleHash, u64, A>,
+    map: HashTable<u64, A>,
 }
 
 impl<A: Allocator> Model for HashIndex<A> {
@@ -34,7 +35,7 @@ impl<A: Allocator + Clone> HashIndex<A> {
         ensures { result ≡ [] }
     {
         HashIndex {
-            map: PassThroughHashMap::new(alloc),
+            map: HashTable::new(alloc),
         }
     }
 
@@ -63,7 +64,7 @@ impl<A: Allocator + Clone> HashIndex<A> {
     pub fn get(&self, hash: &MerkleHash) -> Option<u64>
         ensures { result ≡ number_of self.now hash.now }
     {
-        self.map.get(hash).copied()
+        self.map.get(hash)
     }
 
     /// Returns how many hashes have a number. It allocates nothing.
@@ -74,20 +75,28 @@ impl<A: Allocator + Clone> HashIndex<A> {
         self.map.len()
     }
 
-    /// Returns an iterator over the entries, each a hash and its number, in no particular order. It allocates nothing.
-    pub fn iter(&self) -> Iter<'_, MerkleHash, u64>
-        ensures entries { result ≡ self.now }
-        ensures runs { ShowsInOrder (deref_pair {K = Hash} {X = ℕ}) }
+    /// Returns the entries, each a hash and its number, in no particular order. It allocates nothing.
+    pub fn entries(&self) -> &[(MerkleHash, u64)]
+        ensures entries { result.now ≡ self.now }
         ensures index { IsIndex self.now }
     {
-        self.map.iter()
+        self.map.entries()
+    }
+
+    /// Returns an iterator over the entries, each a hash and its number, in no particular order. It allocates nothing.
+    pub fn iter(&self) -> Iter<'_, (MerkleHash, u64)>
+        ensures entries { iter_rest result ≡ self.now }
+        ensures runs { IterYieldsInOrder (Hash × ℕ) }
+        ensures index { IsIndex self.now }
+    {
+        self.map.entries().iter()
     }
 }
 
 // Puts in the pairs whose hashes a map doesn't have, and lists these hashes. If it fails, the list has at least the hashes
 // that it put in, and none that the map had before.
 fn put_new<A: Allocator + Clone>(
-    map: &mut PassThroughHashMap<MerkleHash, u64, A>,
+    map: &mut HashTable<u64, A>,
     pairs: &[(MerkleHash, u64)],
     added: &mut Vec<MerkleHash, A>,
 ) -> Result<(), AllocError>
@@ -105,10 +114,7 @@ fn put_new<A: Allocator + Clone>(
 }
 
 // Removes some hashes.
-fn remove_all<A: Allocator + Clone>(
-    map: &mut PassThroughHashMap<MerkleHash, u64, A>,
-    hashes: &[MerkleHash],
-)
+fn remove_all<A: Allocator + Clone>(map: &mut HashTable<u64, A>, hashes: &[MerkleHash])
     ensures { IsWithout map.old hashes.now map.new }
 {
     'hashes: for hash in hashes {

@@ -19,6 +19,8 @@ use Rattle.serde_json.specs.View.{items_of}
 use Rattle.serde_json.specs.Written.{outline, items_outline, comma_if, compact_text, items_text}
 use Rattle.serde_json.proofs.Numbers.{number_of-decimal}
 use Rattle.serde_json.proofs.Texts.{print-outline}
+use Rattle.json_text.specs.JsonText.{IsShallow}
+use Rattle.json_text.proofs.Written.{outline_shallow}
 use Rattle.xet_hash.specs.Hash.{hex_text}
 use Rattle.xet_roots.specs.Groups.{Node}
 use Rattle.xet_roots.specs.Roots.{total_size}
@@ -152,6 +154,9 @@ module _ (subtree : Subtree) (few : count_sum (map count_of subtree.levels) < 2 
     numbers = (tt, (tt, (counts.numbers, (nodes.numbers, tt))));
     shallow = omega (arith, counts.shallow, nodes.shallow);
   }
+
+  pub subtree_shallow : IsShallow (compact_text (subtree_json subtree))
+  subtree_shallow = outline_shallow (subtree_json subtree) (omega (arith, subtree_back.shallow))
 
   pub subtree_reads : read (compact_text (subtree_json subtree)) ≡ Some (subtree_json subtree)
   subtree_reads =

@@ -3,6 +3,7 @@ use Rattle.std.proofs.Common.{◌≡◌, List, ℕ, Option, Some, None, Result, 
 use Rattle.std.specs.Prelude.{IsSomeAnd, IsUtf8}
 use Rattle.json.specs.Json.{Json, document}
 use Rattle.json.specs.Strict.{HasUniqueKeys}
+use Rattle.json_text.specs.JsonText.{IsShallow}
 use Rattle.serde_json.specs.Data.{Data}
 use Rattle.serde_json.specs.Read.{read}
 use Rattle.session_json.specs.Reading.{IsStrictText}
@@ -16,10 +17,10 @@ found_json : (found : Option Json) → IsSomeAnd found HasUniqueKeys → (json :
 found_json None unique = elim unique [ ]
 found_json (Some json) unique = (json, refl, unique)
 
-pub strict : (text : List ℕ) (value : Data) → IsUtf8 text → IsSomeAnd (document text) HasUniqueKeys → read text ≡ Some value → IsStrictText text value
-strict text value utf8 unique is =
+pub strict : (text : List ℕ) (value : Data) → IsUtf8 text → IsShallow text → IsSomeAnd (document text) HasUniqueKeys → read text ≡ Some value → IsStrictText text value
+strict text value utf8 shallow unique is =
     let found = found_json (document text) unique in
-    record { utf8 = utf8; json = found.0; is_json = found.1; unique = found.2; value_is = is }
+    record { utf8 = utf8; shallow = shallow; json = found.0; is_json = found.1; unique = found.2; value_is = is }
 
 some_unique : (found : Option Json) (json : Json) → found ≡ Some json → HasUniqueKeys json → IsSomeAnd found HasUniqueKeys
 some_unique None json is unique = let none : ⊥ = cc in absurd none

@@ -9,6 +9,7 @@ use Rattle.serde_json.specs.Find.{get, as_object}
 use Rattle.serde_json.specs.Read.{read}
 use Rattle.serde_json.specs.View.{items_of}
 use Rattle.std.specs.declared.alloc.Global.{Global}
+use Rattle.json_text.specs.JsonText.{IsShallow}
 use Rattle.level_nodes.specs.NodeJson.{whole}
 use Rattle.subtree_levels.specs.Subtree.{Subtree}
 use Rattle.xet_merkle.specs.JsonRules as subtree
@@ -19,9 +20,10 @@ use Rattle.subtree_sessions.specs.Subtrees.{subtrees}
 use Rattle.session_json.specs.declared.fault.SessionTextFault.{SessionTextFault}
 use Rattle.session_json.specs.declared.fault.SessionTextFault.TheVariants as faults
 
--- a text is JSON in which no object has a member twice, and this is its value
+-- a text is JSON that isn't nested too deep, no object in it has a member twice, and this is its value
 pub record IsStrictText (text : List ℕ) (value : Data) : Type 0 where
   pub utf8 : IsUtf8 text
+  pub shallow : IsShallow text
   pub json : Json
   pub is_json : document text ≡ Some json
   pub unique : HasUniqueKeys json

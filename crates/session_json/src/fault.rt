@@ -9,7 +9,7 @@ use thiserror::Error;
 /// Why a session wasn't read from a text.
 #[derive(Clone, Copy, Debug, PartialEq, Eq, Error)]
 pub enum SessionTextFault {
-    /// The text isn't UTF-8 or isn't JSON, or an object has a member twice.
+    /// The text isn't UTF-8, isn't JSON, is nested more than 32 deep, or has a member twice in an object.
     #[error("no JSON, or a member twice")]
     Text,
     /// The value breaks this rule of sessions, and none with a lower number.

@@ -11,6 +11,7 @@ ghost use Rattle.session_json.specs.Reading.{IsStrictText, BreaksRule, HasLists,
 
 use crate::fault::SessionTextFault;
 use json::Scratch;
+use json_text::nesting::is_shallow;
 use level_nodes::node_json::array_member;
 use serde_json::Value;
 use std::alloc::Global;
@@ -33,12 +34,15 @@ fn check_members(alloc: Global, text: &str) -> Result<(), SessionTextFault>
     }
 }
 
-// Returns the value of a text.
+// Returns the value of a text. Both parsers recurse, so a text that is nested too deep comes to neither.
 pub(crate) fn read_value(alloc: Global, text: &[u8]) -> Result<Value, SessionTextFault>
     ensures value { IfOk result (λ value. IsStrictText text.now (view value)) }
     ensures errors { IfErr result (λ e. (e ≡ SessionTextFault.Memory)
         ⊎ ((e ≡ SessionTextFault.Text) × ((json : Data) → ¬ (IsStrictText text.now json)))) }
 {
+    if !is_shallow(text) {
+        return Err(SessionTextFault::Text);
+    }
     let Ok(text) = str::from_utf8(text) else {
         return Err(SessionTextFault::Text);
     };

@@ -153,8 +153,8 @@ fn know_hashes(session: &mut Session, hashes: &[Node], keep_hashes: bool) -> Res
 /// Members other than the five are ignored. A number with a fraction or an exponent isn't a whole number. Time and memory are
 /// in proportion to the text.
 ///
-/// Fails with [`SessionTextFault::Text`] if the text isn't UTF-8 or isn't JSON, if a number in it is too large for a float, or if
-/// an object in it has a member twice.
+/// Fails with [`SessionTextFault::Text`] if the text isn't UTF-8 or isn't JSON, if it is nested more than 32 deep, if a number in
+/// it is too large for a float, or if an object in it has a member twice.
 /// Otherwise fails with the lowest rule that the value breaks:
 ///
 /// 1. it is an object;

@@ -1,9 +1,9 @@
 //! Reads back the JSON text of a subtree that [`subtree_text`] wrote, without a tree of values.
 
-ghost use Rattle.std.specs.Prelude.{◌≡◌, IfOk, IfSome, IsUtf8, Some, []};
+ghost use Rattle.std.specs.Prelude.{IfOk, IfSome, []};
 ghost use Rattle.std.specs.List.{AllByRecursion};
 ghost use Rattle.serde_json.specs.Data.{Data};
-ghost use Rattle.serde_json.specs.Read.{read};
+ghost use Rattle.json_text.specs.JsonText.{IsJsonText};
 ghost use Rattle.xet_hash.specs.Hash.{IsHash};
 ghost use Rattle.level_nodes.specs.FlatLevels.{flat_nodes};
 ghost use Rattle.subtree_levels.specs.WellFormed.{IsWellFormed};
@@ -172,7 +172,7 @@ impl Rest<'_> {
 /// Nothing that was read needs to be trusted, because the subtree is written again and compared with the text.
 pub fn read_back(alloc: Global, text: &[u8]) -> Result<Option<MerkleHashSubtree>, AllocError>
     ensures { IfOk result (λ read_back. IfSome read_back (λ subtree.
-        (json : Data) × IsUtf8 text.now × (read text.now ≡ Some json) × Reads json subtree)) }
+        (json : Data) × IsJsonText text.now json × Reads json subtree)) }
 {
     let Some(subtree) = Rest { text }.subtree(alloc)? else {
         return Ok(None);

@@ -1,11 +1,11 @@
 -- Hashes that are put into a set one after another, and removed.
-use Rattle.std.proofs.Common.{◌≡◌, ◌+◌, ◌<◌, ℕ, Bool, true, false, not, List, [], ◌∷◌, ◌++◌, ◌&&◌, ◌||◌, get_or, length, take, refl, sym, ap, subst, ◌∙◌}
+use Rattle.std.proofs.Common.{◌≡◌, ◌+◌, ◌<◌, ◌≤◌, ℕ, Bool, true, false, not, List, [], ◌∷◌, ◌++◌, ◌&&◌, ◌||◌, get_or, length, take, refl, sym, ap, subst, ◌∙◌}
 use Rattle.std.specs.Prelude.{Option, Some, None, cond, is_some}
 use Rattle.std.specs.List.{IsDistinct}
 use Rattle.std.proofs.lemmas.Bool.{true≢false}
 use Rattle.std.proofs.lemmas.Cmp.{nat_list_eq_equiv}
 use Rattle.std.specs.Cmp.Lexicographic.{same_text}
-use Rattle.std.proofs.lemmas.List.{get_or-map, length-map}
+use Rattle.std.proofs.lemmas.List.{get_or-map, length-map, take_all, take_more}
 use Rattle.std.proofs.lemmas.List.Folds.{list_any_more, list_any-append}
 use Rattle.std.specs.Map.{keys_of}
 use Rattle.std.proofs.lemmas.Map.Entries.{length-keys_of}
@@ -218,3 +218,21 @@ pub length-keys : {V : Type 0} (entries : List (Hash × V)) (distinct : List Has
 length-keys entries distinct map knows once =
     sym (length-keys_of entries)
     ∙ length-from_same_keys nat_list_eq_equiv (keys_of entries) distinct map once (λ hash. sym (among-keys entries hash) ∙ knows hash)
+
+-- all keys of the entries are listed
+pub listed-all : {V : Type 0} (items entries : List (Hash × V)) (hashes : List Hash) (n : ℕ) → hashes ≡ take n (keys_of items) → length items ≤ n → items ≡ entries
+    → hashes ≡ keys_of entries
+listed-all {V} items entries hashes n listed all is =
+    listed
+    ∙ take_all n (keys_of items) (subst (λ m. m ≤ n) (sym (length-keys_of items)) all)
+    ∙ ap (λ (l : List (Hash × V)). keys_of l) is
+
+-- the key of the next entry is listed
+pub listed-next : {V : Type 0} (items : List (Hash × V)) (hashes more : List Hash) (i : ℕ) (item : Hash × V) → i < length items → item ≡ get_or items i item
+    → hashes ≡ take i (keys_of items) → more ≡ hashes ++ item.0 ∷ [] → more ≡ take (i + 1) (keys_of items)
+listed-next {V} items hashes more i item inside is listed pushed =
+    let first = λ (entry : Hash × V). entry.0 in
+    pushed
+    ∙ ap (λ (l : List Hash). l ++ item.0 ∷ []) listed
+    ∙ ap (λ (h : Hash). take i (keys_of items) ++ h ∷ []) (ap first is ∙ sym (get_or-map first items i item [] inside))
+    ∙ sym (take_more (keys_of items) i [] (subst (λ n. i < n) (sym (length-keys_of items)) inside))

@@ -5,9 +5,9 @@ ghost use Rattle.std.specs.List.{IsDistinct};
 ghost use Rattle.xet_hash.specs.FiniteMap.{value_at};
 ghost use Rattle.upload_session.specs.Hashes.{Hash, hash_eq, hashes_of, is_among, AreBoth, AreNew, AreWithout, Knows};
 
+use hash_numbers::HashTable;
 use std::alloc::{AllocError, Allocator, Global};
 use xet_hash::data_hash::MerkleHash;
-use xet_hash::passthrough_hashmap::PassThroughHashMap;
 use xet_roots::aggregated_hashes::Node;
 
 /// What is kept of the hashes of chunks, to find out which later hashes are new.
@@ -42,10 +42,10 @@ pub trait KeptHashes<A: Allocator>: Drop {
             knows self.old all → knows self.new rest };
 }
 
-/// Keeps all hashes, each once, in a map for deduplication.
+/// Keeps all hashes, each once.
 #[derive(Drop)]
 pub struct SeenHashes<A: Allocator = Global> {
-    hashes: PassThroughHashMap<MerkleHash, (), A>,
+    hashes: HashTable<(), A>,
 }
 
 impl<A: Allocator + Clone> SeenHashes<A> {
@@ -62,7 +62,7 @@ impl<A: Allocator + Clone> SeenHashes<A> {
     pub fn forget_all(&mut self, alloc: A)
         ensures { Knows self.new [] }
     {
-        self.hashes = PassThroughHashMap::new(alloc);
+        self.hashes = HashTable::new(alloc);
     }
 
     /// Returns whether a hash is known. It allocates nothing.
@@ -87,7 +87,9 @@ impl<A: Allocator + Clone> SeenHashes<A> {
         ensures each_once { IfOk result (λ hashes. IsDistinct hash_eq hashes.items) }
     {
         let mut hashes = Vec::with_capacity(alloc, self.hashes.len())?;
-        hashes.extend(self.hashes.keys().copied())?;
+        'entries: for (hash, ()) in self.hashes.entries() {
+            hashes.push(*hash)?;
+        }
         Ok(hashes)
     }
 
@@ -134,7 +136,7 @@ impl<A: Allocator + Clone> KeptHashes<A> for SeenHashes<A> {
 
     fn new(alloc: A) -> Self {
         SeenHashes {
-            hashes: PassThroughHashMap::new(alloc),
+            hashes: HashTable::new(alloc),
         }
     }
 

@@ -2,8 +2,8 @@
 //! empty ones, are headings and comments.
 
 use crate::{
-    groups, hash_trees, hashes, indexes, maps, merges, messages, openings, programs, range_proofs,
-    roots, sessions, subtrees,
+    cuts, groups, hash_trees, hashes, indexes, maps, merges, messages, openings, programs,
+    range_proofs, roots, sessions, subtrees,
 };
 use anyhow::{Context, Result};
 use std::alloc::{AllocError, Global};
@@ -45,6 +45,9 @@ fn answer(alloc: Global, call: &str) -> Result<String> {
 
 // Makes a call on messages, hashes, maps, indexes, sessions or the programs.
 fn answer_on_values(alloc: Global, name: &str, arguments: &str) -> Result<Option<String>> {
+    if let Some(text) = cuts::answer(alloc, name, arguments)? {
+        return Ok(Some(text));
+    }
     if let Some(text) = messages::answer(alloc, name, arguments)? {
         return Ok(Some(text));
     }

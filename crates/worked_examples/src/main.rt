@@ -2,6 +2,7 @@
 //! the calls returned. It fails if that isn't what it read.
 #![tactic(auto)]
 
+mod cuts;
 mod groups;
 mod hash_trees;
 mod hashes;

@@ -3,7 +3,7 @@
 use crate::ranges::{SaidRange, merged, range, subtree, told_subtree};
 use crate::told::found;
 use anyhow::{Context, Result};
-use serde_json::Value;
+use json_text::reading::read;
 use std::alloc::Global;
 use std::fmt::Write;
 use xet_merkle::CoreError;
@@ -98,7 +98,7 @@ fn from_json(alloc: Global, arguments: &str) -> Result<String> {
 
 // Reads a subtree from a JSON text, and says whether `to_json` gives the same text.
 fn read_again(alloc: Global, text: &str) -> Result<String> {
-    let value = match Value::from_str(alloc, text) {
+    let value = match read(alloc, text.as_bytes()) {
         Ok(value) => value,
         Err(_) => return Ok(String::from_str(alloc, "no JSON text")?),
     };
@@ -145,7 +145,7 @@ fn fronts(alloc: Global, text: &str) -> Result<String> {
     let mut count = 0u64;
     for (end, _) in text.char_indices() {
         let (front, _) = text.split_at_checked(end).context("no place in the text")?;
-        if Value::from_str(alloc, front).is_ok() {
+        if read(alloc, front.as_bytes()).is_ok() {
             count = count.saturating_add(1);
         }
     }

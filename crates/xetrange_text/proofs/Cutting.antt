@@ -72,7 +72,7 @@ module _ (one_subtree : (json : Data) (a b : Subtree) → Reads json a → Reads
     IsCanonicalBy make at_start at_end nodes levels work → node_count levels ≤ length nodes) where
   says-one : (text : List ℕ) (a b : Subtree) → SaysRange text a → SaysRange text b → a ≡ b
   says-one text a b (json, first, reads, _) (other, second, also, _) =
-      let same : json ≡ other = cc (sym first.1 ∙ second.1) in one_subtree other a b (subst (λ j. Reads j a) same reads) also
+      let same : json ≡ other = cc (sym first.value_is ∙ second.value_is) in one_subtree other a b (subst (λ j. Reads j a) same reads) also
 
   say-one : (lines : List (List ℕ)) (a b : List Subtree) → SayRanges lines a → SayRanges lines b → a ≡ b
   say-one [] [] [] h k = refl

@@ -94,7 +94,7 @@ open-not-write file_hash line Write faulty is = absurd faulty
 module _ (one_range_proof : (json : Data) (a b : Proof) → Reads json a → Reads json b → a ≡ b) where
   one_proof : (text : List ℕ) (a b : Proof) → SaysProof text a → SaysProof text b → a ≡ b
   one_proof text a b (json, first, reads) (other, second, also) =
-      let same : json ≡ other = cc (sym first.1 ∙ second.1) in one_range_proof other a b (subst (λ j. Reads j a) same reads) also
+      let same : json ≡ other = cc (sym first.value_is ∙ second.value_is) in one_range_proof other a b (subst (λ j. Reads j a) same reads) also
 
   -- a line that opens no range
   pub open-fault : (file_hash : List ℕ) (from to : ℕ) (input left : Option (List ℕ)) (line bytes : List ℕ) (fault : RangeFault) → HasRead line bytes input left

@@ -1,8 +1,8 @@
 -- Lines of ranges: each is the JSON text of a subtree that is open at both ends.
-use Rattle.std.specs.Prelude.{◌≡◌, ℕ, ◌^◌, ◌<◌, ◌≤◌, ◌⊎◌, false, IsTrue, IsUtf8, Option, Some, None, List, [], ◌∷◌, ◌++◌, length, flat_map}
+use Rattle.std.specs.Prelude.{◌≡◌, ℕ, ◌^◌, ◌<◌, ◌≤◌, ◌⊎◌, false, IsTrue, Option, Some, None, List, [], ◌∷◌, ◌++◌, length, flat_map}
 use Rattle.std.specs.List.{AllZip, concat}
 use Rattle.serde_json.specs.Data.{Data}
-use Rattle.serde_json.specs.Read.{read}
+use Rattle.json_text.specs.JsonText.{IsJsonText}
 use Rattle.serde_json.specs.Written.{compact_text}
 use Rattle.xet_merkle.specs.Groups.{Node}
 use Rattle.xet_merkle.specs.Levels.{levels_size}
@@ -16,21 +16,17 @@ use Rattle.line_io.specs.Lines.{byte_limit, content, newline}
 abbrev pub IsOpen : Subtree → Type 0
 IsOpen range = (range.at_start ≡ false) × (range.at_end ≡ false)
 
--- some bytes are the JSON text of a value
-abbrev pub IsTextOf : List ℕ → Data → Type 0
-IsTextOf text json = IsUtf8 text × (read text ≡ Some json)
-
 -- some bytes are the JSON text of a subtree that is open at both ends
 abbrev pub SaysRange : List ℕ → Subtree → Type 0
-SaysRange text range = (json : Data) × IsTextOf text json × Reads json range × IsOpen range
+SaysRange text range = (json : Data) × IsJsonText text json × Reads json range × IsOpen range
 
 -- they aren't: their value breaks a rule, and this is the lowest; or they aren't JSON text, or that of a subtree with a
 -- mark
 abbrev pub SaysNoRange : List ℕ → Option ℕ → Type 0
-SaysNoRange text (Some rule) = (json : Data) × IsTextOf text json × BreaksRule json rule
+SaysNoRange text (Some rule) = (json : Data) × IsJsonText text json × BreaksRule json rule
 SaysNoRange text None =
-    ((json : Data) → ¬ (IsTextOf text json))
-    ⊎ ((json : Data) × (range : Subtree) × IsTextOf text json × Reads json range × (IsTrue range.at_start ⊎ IsTrue range.at_end))
+    ((json : Data) → ¬ (IsJsonText text json))
+    ⊎ ((json : Data) × (range : Subtree) × IsJsonText text json × Reads json range × (IsTrue range.at_start ⊎ IsTrue range.at_end))
 
 -- lines say ranges, one each, whose sizes fit 64 bits, and no byte is past the limit
 pub record AreRanges (lines : List (List ℕ)) (ranges : List Subtree) : Type 0 where

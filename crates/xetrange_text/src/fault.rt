@@ -44,11 +44,11 @@ pub enum RangeFault {
     /// For `join` and `root`, the line isn't the JSON text of a subtree that is open at both ends. The second number is
     /// the lowest rule, from 1 to 13 of
     /// [`from_json`](xet_merkle::merkle_hash_subtree::MerkleHashSubtree::from_json), that its value breaks. It is `None`
-    /// if the line isn't JSON text, or if its subtree has a mark.
+    /// if the line isn't JSON text, if it is nested more than 32 deep, or if its subtree has a mark.
     ///
     /// For `verify`, the first line isn't the JSON text of a range proof. The second number is the lowest rule, from 1 to 8
     /// of [`from_json`](range_proof::RangeProof::from_json), that its value breaks. It is `None` if the line isn't JSON
-    /// text.
+    /// text, or is nested more than 32 deep.
     BadRange(u64, Option<u8>),
     /// No line is faulty. The lines don't have the chunks that `prove` was to prove.
     NoChunks,

@@ -4,10 +4,10 @@ ghost use Rattle.std.specs.Prelude.{IfErr, IfOk};
 ghost use Rattle.line_io.specs.Faults.{IfFaulty};
 ghost use Rattle.xetrange_text.specs.Proofs.{IsProofLine, SaysNoProof, SaysProof};
 
+use json_text::reading::{TextFault, read};
 use line_io::fault::Refusal;
 use range_proof::RangeProof;
 use range_proof::laws::proof_json_has_no_float;
-use serde_json::Value;
 use std::alloc::{AllocError, Allocator, Global};
 use xet_merkle::error::CoreError;
 
@@ -29,8 +29,8 @@ pub fn write_proof<A: Allocator>(json: Global, proof: &RangeProof<A>) -> Result<
 
 /// Returns the range proof that a line says. The line comes without its newline.
 ///
-/// Fails with the lowest rule that its value breaks, or with `None` if it isn't JSON text. Fails with
-/// [`Refusal::Memory`] if an allocation fails; this may be returned instead of a rule.
+/// Fails with the lowest rule that its value breaks, or with `None` if it isn't JSON text, or is nested more than 32 deep.
+/// Fails with [`Refusal::Memory`] if an allocation fails; this may be returned instead of a rule.
 pub fn read_proof<A: Allocator + Clone>(
     alloc: A,
     json: Global,
@@ -39,10 +39,10 @@ pub fn read_proof<A: Allocator + Clone>(
     ensures says { IfOk result (SaysProof line.now) }
     ensures fault { IfErr result (λ refusal. IfFaulty refusal (SaysNoProof line.now)) }
 {
-    let value = match Value::from_slice(json, line) {
+    let value = match read(json, line) {
         Ok(value) => value,
-        Err(error) if error.is_memory() => return Err(Refusal::Memory),
-        Err(_) => return Err(Refusal::Faulty(None)),
+        Err(TextFault::Text) => return Err(Refusal::Faulty(None)),
+        Err(TextFault::Memory) => return Err(Refusal::Memory),
     };
     match RangeProof::from_json(alloc, &value) {
         Ok(proof) => Ok(proof),

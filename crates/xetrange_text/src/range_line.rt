@@ -6,8 +6,8 @@ ghost use Rattle.xetrange_text.specs.Steps.MergedLines.{IsNoRange};
 ghost use Rattle.xetrange_text.specs.Ranges.{IsOpen, IsRangeLine, SaysRange};
 
 use crate::fault::LineFault;
+use json_text::reading::{TextFault, read};
 use line_io::fault::Refusal;
-use serde_json::Value;
 use std::alloc::{AllocError, Allocator, Global};
 use xet_merkle::error::CoreError;
 use xet_merkle::laws::subtree_json_has_no_float;
@@ -44,10 +44,10 @@ pub fn read_range<A: Allocator + Clone>(
     ensures says { IfOk result (SaysRange line.now) }
     ensures fault { IfErr result (λ refusal. IfFaulty refusal (IsNoRange line.now)) }
 {
-    let value = match Value::from_slice(json, line) {
+    let value = match read(json, line) {
         Ok(value) => value,
-        Err(error) if error.is_memory() => return Err(Refusal::Memory),
-        Err(_) => return Err(Refusal::Faulty(LineFault::NoRange(None))),
+        Err(TextFault::Text) => return Err(Refusal::Faulty(LineFault::NoRange(None))),
+        Err(TextFault::Memory) => return Err(Refusal::Memory),
     };
     let range = match MerkleHashSubtree::from_json(alloc, &value) {
         Ok(range) => range,

@@ -1,4 +1,4 @@
--- What the walks of a handle's calls need of its type, and the seven types of handles.
+-- What the walks of a handle's calls need of its type, and the eight types of handles.
 use mathlib.Core.Path.{◌≡◌, refl, ap, subst}
 use mathlib.Core.List.{List}
 use mir.Syntax.{Sym}
@@ -14,7 +14,7 @@ use Rattle.std_heap.specs.contracts.GlobalAllocator.TheImpl.{ghosts}
 use Rattle.std_heap.proofs.Global.TheLaws as global_laws
 use Rattle.yurewha_c.proofs.AsBox.{global_row}
 use Rattle.yurewha_c.proofs.Handles.{held}
-use Rattle.yurewha_c.specs.Rows.{subtree_row, session_row, hash_tree_row, opened_range_row, part_row, reader_row, hash_index_row}
+use Rattle.yurewha_c.specs.Rows.{subtree_row, session_row, hash_tree_row, opened_range_row, part_row, reader_row, hash_index_row, file_hasher_row}
 use Rattle.yurewha_c.specs.contracts.subtree_handle.SubtreeHandle as subtree_handle
 use Rattle.yurewha_c.specs.contracts.session_handle.SessionHandle as session_handle
 use Rattle.yurewha_c.specs.contracts.hash_tree_handle.HashTreeHandle as hash_tree_handle
@@ -22,6 +22,8 @@ use Rattle.yurewha_c.specs.contracts.opened_range_handle.OpenedRangeHandle as op
 use Rattle.yurewha_c.specs.contracts.part_handle.PartHandle as part_handle
 use Rattle.yurewha_c.specs.contracts.reader_handle.ReaderHandle as reader_handle
 use Rattle.yurewha_c.specs.contracts.hash_index_handle.HashIndexHandle as hash_index_handle
+use Rattle.yurewha_c.specs.contracts.file_hasher_handle.FileHasherHandle as file_hasher_handle
+use Rattle.yurewha_c.proofs.kept_file.KeptFile.TheLaws as file_hasher_laws
 use Rattle.yurewha_c.proofs.kept_session.KeptSession.TheLaws as session_laws
 use Rattle.hash_numbers.proofs.index.HashIndex.TheLaws as hash_index_laws
 use Rattle.range_proof.proofs.hash_tree.HashTree.TheLaws as hash_tree_laws
@@ -147,6 +149,20 @@ hash_indexes = record {
   laws = hash_index_laws.the_row_laws global_row ghosts global_laws.the_row_laws;
   name = hash_index_handle.struct.name;
   row = hash_index_handle.the_row;
+  of = λ f. record { at = f.0; alloc = f.1; value = f.2 };
+  fields = λ h. (h.at, h.alloc, h.value);
+  back = λ f. refl;
+  owns = λ h vs. refl;
+  last = λ h. tt;
+  silent = λ h f. refl;
+}
+
+abbrev pub file_hashers : HandleType
+file_hashers = record {
+  kept = file_hasher_row;
+  laws = file_hasher_laws.the_row_laws;
+  name = file_hasher_handle.struct.name;
+  row = file_hasher_handle.the_row;
   of = λ f. record { at = f.0; alloc = f.1; value = f.2 };
   fields = λ h. (h.at, h.alloc, h.value);
   back = λ f. refl;

@@ -1,7 +1,7 @@
 -- Hashes and their numbers, in lists side by side, one more of each.
-use Rattle.std.proofs.Common.{arith, ◌≡◌, ◌+◌, ◌<◌, ◌≤◌, ℕ, zero, suc, List, [], ◌∷◌, ◌++◌, length, take, get_or, refl, ap, ◌∙◌, add-one, append_assoc, slice_set}
+use Rattle.std.proofs.Common.{arith, ◌≡◌, ◌+◌, ◌<◌, ◌≤◌, ℕ, zero, suc, List, [], ◌∷◌, ◌++◌, length, take, get_or, refl, sym, ap, ◌∙◌, add-one, append_assoc, slice_set}
 use Rattle.std.proofs.lemmas.Grind.{take-set_at}
-use Rattle.std.proofs.lemmas.List.{length-map, length-take, take_all}
+use Rattle.std.proofs.lemmas.List.{append-nil, length-map, length-take, take_all, take_more}
 use Rattle.std.proofs.lemmas.Slice.Zip.{length-zip}
 use Rattle.hash_numbers.specs.Index.{Entry}
 use Rattle.yurewha_c.specs.HashNumbers.{pairs_of}
@@ -46,3 +46,24 @@ pairs-written hashes numbers i hash number rest h k =
     ∙ ap (λ (front : List Entry). front ++ rest)
     (pairs-push (take i hashes) (take i numbers) hash number (omega (arith, length-take i hashes, length-take i numbers)))
     ∙ append_assoc (pairs_of (take i hashes) (take i numbers)) ((hash.words, number) ∷ []) rest
+
+-- the first entries are written, and one more is
+pub entries-written : (entries : List Entry) (hashes : List Hash) (numbers : List ℕ) (i : ℕ) (entry : Entry) (hash : Hash) → i < length entries → i < length hashes → i < length numbers
+    → entry ≡ get_or entries i entry → hash.words ≡ entry.0 → pairs_of (take i hashes) (take i numbers) ≡ take i entries
+    → pairs_of (take (i + 1) (slice_set hashes i hash)) (take (i + 1) (slice_set numbers i entry.1)) ≡ take (i + 1) entries
+entries-written entries hashes numbers i entry hash inside h k is words written =
+    sym (append-nil (pairs_of (take (i + 1) (slice_set hashes i hash)) (take (i + 1) (slice_set numbers i entry.1))))
+    ∙ pairs-written hashes numbers i hash entry.1 [] h k
+    ∙ ap (λ (w : List ℕ). pairs_of (take i hashes) (take i numbers) ++ (w, entry.1) ∷ []) words
+    ∙ ap (λ (front : List Entry). front ++ entry ∷ []) written
+    ∙ ap (λ (one : Entry). take i entries ++ one ∷ []) is
+    ∙ sym (take_more entries i entry inside)
+
+-- all entries are written
+pub entries-all : (entries : List Entry) (hashes : List Hash) (numbers : List ℕ) (i : ℕ) → length entries ≤ i → length hashes ≡ length entries → length numbers ≡ length entries
+    → pairs_of (take i hashes) (take i numbers) ≡ take i entries → pairs_of hashes numbers ≡ entries
+entries-all entries hashes numbers i past h k written =
+    ap (λ (l : List Hash). pairs_of l numbers) (sym (take_all i hashes (omega (arith, past, h))))
+    ∙ ap (λ (l : List ℕ). pairs_of (take i hashes) l) (sym (take_all i numbers (omega (arith, past, k))))
+    ∙ written
+    ∙ take_all i entries past

@@ -3,6 +3,7 @@ pub mod StatusTexts
 pub mod Chunks
 pub mod Roots
 pub mod Hashers
+pub mod FileHashers
 pub mod HashNumbers
 pub mod Order
 pub mod FlatLists

@@ -8,7 +8,7 @@ use Rattle.std.specs.Coded.{coded_option}
 use Rattle.std.specs.Box.Ownership.{box_owns}
 use Rattle.std.specs.Global.{Global}
 use Rattle.std.specs.contracts.impls.GlobalAllocator.TheImpl.{ghosts}
-use Rattle.yurewha_c.specs.Rows.{subtree_row, session_row, hash_tree_row, opened_range_row, part_row, reader_row, hash_index_row}
+use Rattle.yurewha_c.specs.Rows.{subtree_row, session_row, hash_tree_row, opened_range_row, part_row, reader_row, hash_index_row, file_hasher_row}
 
 -- a pointer that is null
 abbrev pub IsNull : Ptr → Fml
@@ -60,3 +60,9 @@ owns_hash_index = owns_kept hash_index_row
 
 abbrev pub hash_index_code : Coded (Option hash_index_row.Denot)
 hash_index_code = coded_option hash_index_row.coded
+
+abbrev pub owns_file_hasher : Global → Ptr → Option file_hasher_row.Denot → Fml
+owns_file_hasher = owns_kept file_hasher_row
+
+abbrev pub file_hasher_code : Coded (Option file_hasher_row.Denot)
+file_hasher_code = coded_option file_hasher_row.coded

@@ -1,8 +1,5 @@
 -- Readers of files and parts of files, as handles own them.
-use Rattle.std.specs.Prelude.{◌≡◌, ◌⊎◌, ℕ, ◌+◌, ◌-◌, ◌^◌, ◌<◌, ◌≤◌, All, Option, Some, List, [], ◌∷◌, ◌++◌, length, drop, max, min, take, IsUtf8}
-use Rattle.serde_json.specs.Data.{Data}
-use Rattle.serde_json.specs.Read.{read}
-use Rattle.range_proof.specs.ProofJson.{Reads}
+use Rattle.std.specs.Prelude.{◌≡◌, ◌⊎◌, ℕ, ◌+◌, ◌-◌, ◌^◌, ◌<◌, ◌≤◌, All, Option, List, [], ◌∷◌, ◌++◌, length, drop, max, min, take}
 use Rattle.range_proof.specs.RangeProof.{Proof, Shows, file_size_of}
 use Rattle.verified_reader.specs.Kept.{AllKept, AreKeptAt, AreUsed, DropsOldest, IsFirstMissing, IsKept, KeepsAll}
 use Rattle.verified_reader.specs.Reader.{AreAllRight, AreCopied, AreOfFile, Check, HasLearned, HoldsPlaces, IsCheckedBy, IsFarFrom, IsShownBy, Part, Reader, checks_of, within_file}
@@ -69,7 +66,3 @@ pub record HasChecked (old new : Part) (all : List ℕ) : Type 0 where
   pub checked : All (IsCheckedBy new.proof new.hash new.salt) new.checked
   pub copied : AreCopied new.proof new.right all new.checked
   pub same : new ≡ record old { right = new.right; checked = new.checked }
-
--- a text is that of a JSON value that says a proof
-abbrev pub SaysProof : List ℕ → Proof → Type 0
-SaysProof text proof = (json : Data) × IsUtf8 text × (read text ≡ Some json) × Reads json proof

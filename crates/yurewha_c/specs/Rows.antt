@@ -8,6 +8,7 @@ use Rattle.range_proof.specs.contracts.opened_range.OpenedRange as opened_range
 use Rattle.xet_merkle.specs.contracts.merkle_hash_subtree.subtree.MerkleHashSubtree as subtree
 use Rattle.verified_reader.specs.contracts.part.WantedPart as part
 use Rattle.verified_reader.specs.contracts.reader.VerifiedReader as reader
+use Rattle.yurewha_c.specs.contracts.kept_file.KeptFile as file_hasher
 use Rattle.yurewha_c.specs.contracts.kept_session.KeptSession as session
 
 abbrev pub subtree_row : RattleType
@@ -30,3 +31,6 @@ reader_row = reader.the_row global.the_row ghosts
 
 abbrev pub hash_index_row : RattleType
 hash_index_row = hash_index.the_row global.the_row ghosts
+
+abbrev pub file_hasher_row : RattleType
+file_hasher_row = file_hasher.the_row

@@ -48,7 +48,7 @@ impl Hash {
 
 /// Writes the hash of a chunk. `bytes` is its data. The hash is keyed BLAKE3 under the data key. It allocates nothing.
 ///
-/// Since 1.0.
+/// Since 1.1.
 #[unsafe(no_mangle)]
 pub extern "C" fn yurewha_data_hash(bytes: &[u8], hash: &mut Hash)
     ensures { hash.new.words ≡ hash_of (keyed_hash data_key bytes.now) }
@@ -59,7 +59,7 @@ pub extern "C" fn yurewha_data_hash(bytes: &[u8], hash: &mut Hash)
 /// Writes the hash of an inner node of the tree. `bytes` is its text. The hash is keyed BLAKE3 under the internal key.
 /// It allocates nothing.
 ///
-/// Since 1.0.
+/// Since 1.1.
 #[unsafe(no_mangle)]
 pub extern "C" fn yurewha_internal_node_hash(bytes: &[u8], hash: &mut Hash)
     ensures { hash.new.words ≡ hash_of (keyed_hash internal_key bytes.now) }
@@ -69,7 +69,7 @@ pub extern "C" fn yurewha_internal_node_hash(bytes: &[u8], hash: &mut Hash)
 
 /// Writes the keyed BLAKE3 hash of the bytes of `hash`, under the bytes of `key`. It allocates nothing.
 ///
-/// Since 1.0.
+/// Since 1.1.
 #[unsafe(no_mangle)]
 pub extern "C" fn yurewha_hmac(hash: &Hash, key: &Hash, keyed: &mut Hash)
     ensures { keyed.new.words ≡ hash_of (keyed_hash (bytes_of key.now.words) (bytes_of hash.now.words)) }
@@ -79,7 +79,7 @@ pub extern "C" fn yurewha_hmac(hash: &Hash, key: &Hash, keyed: &mut Hash)
 
 /// Writes a pseudorandom hash, for tests. Its bytes are the first 32 of Xoshiro256++, seeded by SplitMix64 from `seed`.
 ///
-/// Since 1.0.
+/// Since 1.1.
 #[unsafe(no_mangle)]
 pub extern "C" fn yurewha_random_from_seed(seed: u64, hash: &mut Hash)
     ensures { hash.new.words ≡ random_hash seed }
@@ -89,7 +89,7 @@ pub extern "C" fn yurewha_random_from_seed(seed: u64, hash: &mut Hash)
 
 /// Writes the 32 bytes of a hash: its words in order, each little-endian on every machine.
 ///
-/// Since 1.0.
+/// Since 1.1.
 #[unsafe(no_mangle)]
 pub extern "C" fn yurewha_hash_to_bytes(hash: &Hash, bytes: &mut Bytes)
     ensures { bytes.new.bytes ≡ bytes_of hash.now.words }
@@ -101,7 +101,7 @@ pub extern "C" fn yurewha_hash_to_bytes(hash: &Hash, bytes: &mut Bytes)
 
 /// Writes the hash that has these 32 bytes.
 ///
-/// Since 1.0.
+/// Since 1.1.
 #[unsafe(no_mangle)]
 pub extern "C" fn yurewha_hash_from_bytes(bytes: &Bytes, hash: &mut Hash)
     ensures value { hash.new.words ≡ hash_of bytes.now.bytes }
@@ -113,7 +113,7 @@ pub extern "C" fn yurewha_hash_from_bytes(bytes: &Bytes, hash: &mut Hash)
 /// Compares the words of two hashes in order. This is also the order of their hex texts. Returns -1, 0 or 1 if the
 /// first hash is less, equal or greater.
 ///
-/// Since 1.0.
+/// Since 1.1.
 #[unsafe(no_mangle)]
 pub extern "C" fn yurewha_compare(first: &Hash, second: &Hash) -> i32
     ensures { result ≡ sign_of (hash_cmp first.now.words second.now.words) }
@@ -130,7 +130,7 @@ pub extern "C" fn yurewha_compare(first: &Hash, second: &Hash) -> i32
 /// - `DONE`: the divisor isn't 0.
 /// - `ARGUMENTS`: the divisor is 0.
 ///
-/// Since 1.0.
+/// Since 1.1.
 #[unsafe(no_mangle)]
 pub extern "C" fn yurewha_remainder(hash: &Hash, divisor: u64, remainder: &mut u64) -> u32
     ensures done { (result ≡ DONE) ↔ (divisor ≢ 0) }

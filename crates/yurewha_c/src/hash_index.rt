@@ -170,15 +170,16 @@ pub extern "C" fn yurewha_hash_index_find(
     status
 }
 
-// Writes the entries of an index to two lists of their number.
-fn write_entries(kept: &HashIndex, hashes: &mut [Hash], numbers: &mut [u64])
-    requires hashes { length hashes.old ≡ length kept.now }
-    requires numbers { length numbers.old ≡ length kept.now }
-    ensures { pairs_of hashes.new numbers.new ≡ kept.now }
+// Writes entries to two lists of their number.
+fn write_entries(entries: &[(MerkleHash, u64)], hashes: &mut [Hash], numbers: &mut [u64])
+    requires hashes { length hashes.old ≡ length entries.now }
+    requires numbers { length numbers.old ≡ length entries.now }
+    ensures { pairs_of hashes.new numbers.new ≡ entries.now }
 {
-    'entries: for (i, (hash, number)) in kept.iter().enumerate() {
-        hashes[i] = Hash::of(*hash);
-        numbers[i] = *number;
+    'pairs: for i in 0..entries.len() {
+        let entry = entries[i];
+        hashes[i] = Hash::of(entry.0);
+        numbers[i] = entry.1;
     }
 }
 
@@ -195,7 +196,7 @@ fn write_all(kept: &HashIndex, hashes: &mut [Hash], numbers: &mut [u64]) -> u32
     if hashes.len() != count || numbers.len() != count {
         return ARGUMENTS;
     }
-    write_entries(kept, hashes, numbers);
+    write_entries(kept.entries(), hashes, numbers);
     DONE
 }
 

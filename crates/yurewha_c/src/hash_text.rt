@@ -18,7 +18,7 @@ use xet_hash::data_hash::{DataHash, HashTextError};
 /// - `DONE`: there is room for at least 64 bytes.
 /// - `ROOM`: there is room for fewer than 64 bytes.
 ///
-/// Since 1.0.
+/// Since 1.1.
 #[unsafe(no_mangle)]
 pub extern "C" fn yurewha_hex(hash: &Hash, room: &mut [u8], text_len: &mut usize) -> u32
     ensures done { (result ≡ DONE) ↔ (64 ≤ length room.old) }
@@ -35,7 +35,7 @@ pub extern "C" fn yurewha_hex(hash: &Hash, room: &mut [u8], text_len: &mut usize
 /// - `DONE`: the text is 64 hex digits, lower or upper case.
 /// - `TEXT`: the text is anything else.
 ///
-/// Since 1.0.
+/// Since 1.1.
 #[unsafe(no_mangle)]
 pub extern "C" fn yurewha_from_hex(text: &[u8], hash: &mut Hash) -> u32
     ensures done { (result ≡ DONE) ↔ IsHexText text.now }
@@ -58,7 +58,7 @@ pub extern "C" fn yurewha_from_hex(text: &[u8], hash: &mut Hash) -> u32
 /// - `DONE`: there is room for at least 43 bytes.
 /// - `ROOM`: there is room for fewer than 43 bytes.
 ///
-/// Since 1.0.
+/// Since 1.1.
 #[unsafe(no_mangle)]
 pub extern "C" fn yurewha_base64(hash: &Hash, room: &mut [u8], text_len: &mut usize) -> u32
     ensures done { (result ≡ DONE) ↔ (43 ≤ length room.old) }
@@ -76,7 +76,7 @@ pub extern "C" fn yurewha_base64(hash: &Hash, room: &mut [u8], text_len: &mut us
 /// - `TEXT`: it is any other text.
 /// - `MEMORY`: an allocation failed.
 ///
-/// Since 1.0.
+/// Since 1.1.
 #[unsafe(no_mangle)]
 pub extern "C" fn yurewha_from_base64(alloc: Global, text: &[u8], hash: &mut Hash) -> u32
     ensures statuses { (result ≡ DONE) ⊎ ((result ≡ TEXT) ⊎ (result ≡ MEMORY)) }

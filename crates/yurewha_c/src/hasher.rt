@@ -13,7 +13,7 @@ use xet_hash::data_hash::{DATA_KEY, DataHash, INTERNAL_KEY};
 
 /// Begins a hasher of the empty message under the data key. It computes the same as `yurewha_data_hash`.
 ///
-/// Since 1.0.
+/// Since 1.1.
 #[unsafe(no_mangle)]
 pub extern "C" fn yurewha_hasher_begin_data(hasher: &mut Hasher)
     ensures { Begins data_key hasher.new }
@@ -23,7 +23,7 @@ pub extern "C" fn yurewha_hasher_begin_data(hasher: &mut Hasher)
 
 /// Begins a hasher of the empty message under the internal key. It computes the same as `yurewha_internal_node_hash`.
 ///
-/// Since 1.0.
+/// Since 1.1.
 #[unsafe(no_mangle)]
 pub extern "C" fn yurewha_hasher_begin_internal(hasher: &mut Hasher)
     ensures { Begins internal_key hasher.new }
@@ -33,7 +33,7 @@ pub extern "C" fn yurewha_hasher_begin_internal(hasher: &mut Hasher)
 
 /// Begins a hasher of the empty message under any key of 32 bytes.
 ///
-/// Since 1.0.
+/// Since 1.1.
 #[unsafe(no_mangle)]
 pub extern "C" fn yurewha_hasher_begin_keyed(hasher: &mut Hasher, key: &Bytes)
     ensures { Begins key.now.bytes hasher.new }
@@ -43,7 +43,7 @@ pub extern "C" fn yurewha_hasher_begin_keyed(hasher: &mut Hasher, key: &Bytes)
 
 /// Returns the length of the message in bytes.
 ///
-/// Since 1.0.
+/// Since 1.1.
 #[unsafe(no_mangle)]
 pub extern "C" fn yurewha_hasher_count(hasher: &Hasher) -> u64
     ensures count { result ≡ count_of hasher.now }
@@ -57,7 +57,7 @@ pub extern "C" fn yurewha_hasher_count(hasher: &Hasher) -> u64
 /// - `DONE`: the message now has at most 2^64 - 1 bytes.
 /// - `SIZES`: it would have more.
 ///
-/// Since 1.0.
+/// Since 1.1.
 #[unsafe(no_mangle)]
 pub extern "C" fn yurewha_hasher_update(hasher: &mut Hasher, piece: &[u8]) -> u32
     ensures done { (result ≡ DONE) ↔ (count_of hasher.old + length piece.now < 2 ^ 64) }
@@ -75,7 +75,7 @@ pub extern "C" fn yurewha_hasher_update(hasher: &mut Hasher, piece: &[u8]) -> u3
 
 /// Writes the keyed hash of the message. The hasher is unchanged, so it can take more pieces, and be finalized again.
 ///
-/// Since 1.0.
+/// Since 1.1.
 #[unsafe(no_mangle)]
 pub extern "C" fn yurewha_hasher_finalize(hasher: &Hasher, hash: &mut Hash)
     ensures { (key m : List ℕ) → Holds key hasher.now m → hash.new.words ≡ hash_of (keyed_hash key m) }

@@ -3,8 +3,8 @@
 //!
 //! A slice is passed as a pointer and a length, a reference as a pointer, and a `Global` as nothing. No export has a
 //! precondition: each wrong argument has a [`status`]. Whatever owns memory is passed as a [`subtree_handle`], a
-//! [`session_handle`], a [`hash_tree_handle`], an [`opened_range_handle`], a [`part_handle`], a [`reader_handle`] or a
-//! [`hash_index_handle`].
+//! [`session_handle`], a [`hash_tree_handle`], an [`opened_range_handle`], a [`part_handle`], a [`reader_handle`], a
+//! [`hash_index_handle`] or a [`file_hasher_handle`].
 //!
 //! The comment of an export lists its statuses, and ends with the version that first had it. It doesn't repeat the header's
 //! rules for all calls. A call that doesn't return `DONE` changes and writes nothing, except for the lengths that it writes
@@ -12,8 +12,11 @@
 //! otherwise, and frees what a handle owned to which it writes another value. It writes a text to the beginning of its room.
 #![tactic(auto)]
 
+mod chunker;
 mod chunks;
 mod data_hashes;
+mod file_hasher;
+mod file_hasher_handle;
 mod hash;
 mod hash_index;
 mod hash_index_handle;
@@ -21,6 +24,7 @@ mod hash_text;
 mod hash_tree;
 mod hash_tree_handle;
 mod hasher;
+mod kept_file;
 mod kept_session;
 mod opened_range;
 mod opened_range_handle;

@@ -1,28 +1,22 @@
 //! Parts of a file that were asked for: their proofs, which may come from anybody, and the checks of their data.
 
-ghost use Rattle.std.specs.Prelude.{◌≡◌, ◌≢◌, ◌⊎◌, ◌↔◌, ◌+◌, ◌-◌, ◌≤◌, ℕ, List, None, Some, [], length, slice_range, IfNone, IfSome, IsSomeAnd, IsTrue, IsUtf8};
-ghost use Rattle.serde_json.specs.Data.{Data};
-ghost use Rattle.serde_json.specs.Read.{read};
+ghost use Rattle.std.specs.Prelude.{◌≡◌, ◌≢◌, ◌⊎◌, ◌↔◌, ◌+◌, ◌-◌, ◌≤◌, ℕ, List, None, Some, [], length, slice_range, IfNone, IfSome, IsSomeAnd, IsTrue};
 ghost use Rattle.range_proof.specs.RangeProof.{Proof, Shows, begin_of, file_size_of};
-ghost use Rattle.range_proof.specs.ProofJson.{BreaksRule};
 ghost use Rattle.range_proof.specs.Checking.{IsSoundRead};
 ghost use Rattle.range_proof.specs.Reading.{IsRead};
 ghost use Rattle.verified_reader.specs.Reader.{GoesFrom, IsWhyRefused};
 ghost use Rattle.verified_reader.specs.declared.part_fault.PartFault.TheVariants.{Elsewhere, TooFar};
 ghost use Rattle.yurewha_c.specs.Handles.{BothHold, Reads};
 ghost use Rattle.yurewha_c.specs.ProofLists.{AreOfProof, IsFlatRule};
-ghost use Rattle.yurewha_c.specs.Readers.{HasChecked, IsOpened, SaysProof};
+ghost use Rattle.yurewha_c.specs.Readers.{HasChecked, IsOpened};
 
 use crate::chunks::Chunk;
 use crate::hash::{Bytes, Hash};
 use crate::part_handle::PartHandle;
 use crate::proof_lists::read_proof;
-use crate::status::{
-    DONE, ELSEWHERE, EMPTY_HANDLE, MEMORY, MISMATCH, PROOF_RULE, TEXT, TOO_FAR, status_of_proof,
-};
+use crate::status::{DONE, ELSEWHERE, EMPTY_HANDLE, MEMORY, MISMATCH, TOO_FAR};
 use crate::subtree_flat::Level;
 use range_proof::RangeProof;
-use serde_json::Value;
 use std::alloc::Global;
 use verified_reader::{PartFault, WantedPart};
 
@@ -134,54 +128,6 @@ pub extern "C" fn yurewha_part_open(
             alloc, proof, file_hash, salt, from, to, beyond, part, begin, end,
         ),
         Err(status) => status,
-    }
-}
-
-/// Does the same as `yurewha_part_open` with a range proof that is JSON text, as `yurewha_range_proof_from_json` reads it.
-/// Refuse a text that is too long before this call, as is said there. The other statuses are those of `yurewha_part_open`.
-///
-/// - `TEXT`: the text isn't UTF-8, or isn't JSON.
-/// - `PROOF_RULE` + rule: the value breaks this rule of `yurewha_range_proof_from_json`, and none with a lower number.
-/// - `MEMORY`: an allocation failed; this may be returned instead of another one.
-///
-/// Since 1.1.
-#[unsafe(no_mangle)]
-pub extern "C" fn yurewha_part_open_json(
-    alloc: Global,
-    text: &[u8],
-    file_hash: &Hash,
-    salt: &Bytes,
-    from: u64,
-    to: u64,
-    beyond: u64,
-    begin: &mut u64,
-    end: &mut u64,
-    part: &mut PartHandle,
-) -> u32
-    ensures opened { result ≡ DONE → IsSomeAnd part.new.value (λ opened. SaysProof text.now opened.proof
-        × IsOpened opened file_hash.now.words salt.now.bytes from to beyond × GoesFrom opened.proof begin.new end.new) }
-    ensures mismatch { result ≡ MISMATCH → (proof : Proof) × SaysProof text.now proof
-        × ¬ (Shows proof file_hash.now.words salt.now.bytes) }
-    ensures elsewhere { result ≡ ELSEWHERE → (proof : Proof) × SaysProof text.now proof
-        × IsWhyRefused proof file_hash.now.words salt.now.bytes from to beyond (Elsewhere begin.new end.new) }
-    ensures too_far { result ≡ TOO_FAR → (proof : Proof) × SaysProof text.now proof
-        × IsWhyRefused proof file_hash.now.words salt.now.bytes from to beyond (TooFar begin.new end.new) }
-    ensures text { result ≡ TEXT → IsUtf8 text.now → read text.now ≡ None }
-    ensures statuses { (result ≡ DONE) ⊎ ((result ≡ MISMATCH) ⊎ ((result ≡ ELSEWHERE) ⊎ ((result ≡ TOO_FAR)
-        ⊎ ((result ≡ TEXT) ⊎ ((result ≡ MEMORY) ⊎ ((rule : ℕ) × (result ≡ PROOF_RULE + rule)
-        × (json : Data) × IsUtf8 text.now × (read text.now ≡ Some json) × BreaksRule json rule)))))) }
-    ensures unchanged { result ≢ DONE → part.new.value ≡ part.old.value }
-    ensures unwritten { result ≢ DONE → result ≢ ELSEWHERE → result ≢ TOO_FAR → (begin.new ≡ begin.old) × (end.new ≡ end.old) }
-{
-    let value = match Value::from_slice(alloc, text) {
-        Ok(value) => value,
-        Err(error) => return if error.is_memory() { MEMORY } else { TEXT },
-    };
-    match RangeProof::from_json(alloc, &value) {
-        Ok(proof) => open_part(
-            alloc, proof, file_hash, salt, from, to, beyond, part, begin, end,
-        ),
-        Err(error) => status_of_proof(error),
     }
 }
 

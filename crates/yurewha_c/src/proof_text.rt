@@ -1,8 +1,8 @@
 //! Range proofs as JSON text.
 
-ghost use Rattle.std.specs.Prelude.{◌≡◌, ◌≢◌, ◌⊎◌, ℕ, ◌+◌, Some, None, IfOk, IsUtf8};
+ghost use Rattle.std.specs.Prelude.{◌≡◌, ◌≢◌, ◌⊎◌, ℕ, ◌+◌, IfOk};
 ghost use Rattle.serde_json.specs.Data.{Data};
-ghost use Rattle.serde_json.specs.Read.{read};
+ghost use Rattle.json_text.specs.JsonText.{IsJsonText};
 ghost use Rattle.serde_json.specs.Written.{compact_text};
 ghost use Rattle.range_proof.specs.RangeProof.{Proof};
 ghost use Rattle.range_proof.specs.ProofJson.{BreaksRule, Reads, proof_json};
@@ -14,9 +14,9 @@ use crate::proof_lists::{read_proof, write_proof};
 use crate::status::{DONE, MEMORY, PROOF_RULE, ROOM, TEXT, status_of_proof};
 use crate::subtree_flat::Level;
 use crate::text::write_text;
+use json_text::reading::{TextFault, read};
 use range_proof::RangeProof;
 use range_proof::laws::proof_json_has_no_float;
-use serde_json::Value;
 use std::alloc::{AllocError, Global};
 
 // Returns the compact JSON text of a range proof.
@@ -73,7 +73,7 @@ pub extern "C" fn yurewha_range_proof_to_json(
 /// - `DONE`: the lists are written.
 /// - `ROOM`: a list is longer than its room; nothing is written to either, and `level_len` and `node_len` are the
 ///   needed lengths.
-/// - `TEXT`: the text isn't UTF-8, or isn't JSON.
+/// - `TEXT`: the text isn't UTF-8, isn't JSON, or is nested more than 32 deep.
 /// - `PROOF_RULE` + rule: the value breaks this rule, and none with a lower number:
 ///   1. it is an object
 ///   2. `chunks` and `levels` are arrays
@@ -96,18 +96,19 @@ pub extern "C" fn yurewha_range_proof_from_json(
     node_len: &mut usize,
 ) -> u32
     ensures reads { (result ≡ DONE) ⊎ (result ≡ ROOM) → (proof : Proof)
-        × ((json : Data) × IsUtf8 text.now × (read text.now ≡ Some json) × Reads json proof)
+        × ((json : Data) × IsJsonText text.now json × Reads json proof)
         × WritesProof proof levels.old levels.new nodes.old nodes.new level_len.new node_len.new result }
-    ensures text { result ≡ TEXT → IsUtf8 text.now → read text.now ≡ None }
+    ensures text { result ≡ TEXT → (json : Data) → ¬ (IsJsonText text.now json) }
     ensures statuses { (result ≡ DONE) ⊎ ((result ≡ ROOM) ⊎ ((result ≡ TEXT) ⊎ ((result ≡ MEMORY)
         ⊎ ((rule : ℕ) × (result ≡ PROOF_RULE + rule)
-        × (json : Data) × IsUtf8 text.now × (read text.now ≡ Some json) × BreaksRule json rule)))) }
+        × (json : Data) × IsJsonText text.now json × BreaksRule json rule)))) }
     ensures unchanged { result ≢ DONE → (levels.new ≡ levels.old) × (nodes.new ≡ nodes.old) }
     ensures no_lens { result ≢ DONE → result ≢ ROOM → (level_len.new ≡ level_len.old) × (node_len.new ≡ node_len.old) }
 {
-    let value = match Value::from_slice(alloc, text) {
+    let value = match read(alloc, text) {
         Ok(value) => value,
-        Err(error) => return if error.is_memory() { MEMORY } else { TEXT },
+        Err(TextFault::Text) => return TEXT,
+        Err(TextFault::Memory) => return MEMORY,
     };
     match RangeProof::from_json(alloc, &value) {
         Ok(proof) => write_proof(&proof, levels, nodes, level_len, node_len),

@@ -21,7 +21,7 @@ use xet_merkle::merkle_hash_subtree::{find_stable_end_of, find_stable_start_of};
 /// - `SIZES`: if and only if the sizes add up to more than 2^64 - 1.
 /// - `MEMORY`: an allocation failed; never with one chunk or none.
 ///
-/// Since 1.0.
+/// Since 1.1.
 #[unsafe(no_mangle)]
 pub extern "C" fn yurewha_xorb_hash(alloc: Global, chunks: &[Chunk], root: &mut Hash) -> u32
     ensures root { result ≡ DONE → IsRoot (nodes_of chunks.now) root.new.words }
@@ -53,7 +53,7 @@ fn write_file_hash(alloc: Global, chunks: &[Chunk], salt: &[u8; 32], hash: &mut 
 /// Writes the file hash of a list of chunks without a salt. With no chunks it is the default hash. Otherwise it is the
 /// hmac of their root under 32 zero bytes. The statuses are those of `yurewha_xorb_hash`.
 ///
-/// Since 1.0.
+/// Since 1.1.
 #[unsafe(no_mangle)]
 pub extern "C" fn yurewha_file_hash(alloc: Global, chunks: &[Chunk], hash: &mut Hash) -> u32
     ensures { WritesFileHash chunks.now (replicate 32 0) result hash.old hash.new }
@@ -64,7 +64,7 @@ pub extern "C" fn yurewha_file_hash(alloc: Global, chunks: &[Chunk], hash: &mut 
 /// Writes the file hash of a list of chunks under a salt. With no chunks it is the default hash, whatever the salt.
 /// Otherwise it is the hmac of their root under the bytes of the salt. The statuses are those of `yurewha_xorb_hash`.
 ///
-/// Since 1.0.
+/// Since 1.1.
 #[unsafe(no_mangle)]
 pub extern "C" fn yurewha_file_hash_with_salt(
     alloc: Global,
@@ -83,7 +83,7 @@ pub extern "C" fn yurewha_file_hash_with_salt(
 /// - `DONE`: the point is written.
 /// - `ARGUMENTS`: there is none.
 ///
-/// Since 1.0.
+/// Since 1.1.
 #[unsafe(no_mangle)]
 pub extern "C" fn yurewha_find_stable_start(nodes: &[Chunk], point: &mut usize) -> u32
     ensures point { WritesPoint IsFirstStable nodes.now result point.old point.new }
@@ -101,7 +101,7 @@ pub extern "C" fn yurewha_find_stable_start(nodes: &[Chunk], point: &mut usize) 
 /// Writes the last stable point of some nodes, as the number of nodes before it. It allocates nothing. The statuses are
 /// those of `yurewha_find_stable_start`.
 ///
-/// Since 1.0.
+/// Since 1.1.
 #[unsafe(no_mangle)]
 pub extern "C" fn yurewha_find_stable_end(nodes: &[Chunk], point: &mut usize) -> u32
     ensures point { WritesPoint IsLastStable nodes.now result point.old point.new }

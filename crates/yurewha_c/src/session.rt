@@ -27,7 +27,7 @@ use xet_merkle::as_node::read_nodes;
 /// - `DONE`: it is made.
 /// - `MEMORY`: an allocation failed.
 ///
-/// Since 1.0.
+/// Since 1.1.
 #[unsafe(no_mangle)]
 pub extern "C" fn yurewha_session_new(alloc: Global, session: &mut SessionHandle) -> u32
     ensures made { result ≡ DONE → IsSomeAnd session.new.value (λ made.
@@ -130,7 +130,7 @@ fn put_chunks(
 /// - `SIZES`: otherwise, the sizes of all chunks add up to more than 2^64 - 1.
 /// - `MEMORY`: an allocation failed; this may be returned instead of the three above.
 ///
-/// Since 1.0.
+/// Since 1.1.
 #[unsafe(no_mangle)]
 pub extern "C" fn yurewha_session_put(
     alloc: Global,
@@ -194,7 +194,7 @@ pub extern "C" fn yurewha_session_put(
 /// - `DONE`: it is written.
 /// - `EMPTY_HANDLE`: the handle is empty.
 ///
-/// Since 1.0.
+/// Since 1.1.
 #[unsafe(no_mangle)]
 pub extern "C" fn yurewha_session_taken(
     alloc: Global,
@@ -222,7 +222,7 @@ pub extern "C" fn yurewha_session_taken(
 ///   1.
 /// - `MEMORY`: an allocation failed.
 ///
-/// Since 1.0.
+/// Since 1.1.
 #[unsafe(no_mangle)]
 pub extern "C" fn yurewha_session_root(
     alloc: Global,
@@ -255,7 +255,7 @@ pub extern "C" fn yurewha_session_root(
 /// Writes the file hash, without a salt, of all chunks in the order of their positions. It is the one under 32 zero
 /// bytes. The statuses are those of `yurewha_session_root`.
 ///
-/// Since 1.0.
+/// Since 1.1.
 #[unsafe(no_mangle)]
 pub extern "C" fn yurewha_session_finish(
     alloc: Global,
@@ -324,7 +324,7 @@ pub extern "C" fn yurewha_session_copy(
 
 /// Frees what the handle owns, and leaves it empty.
 ///
-/// Since 1.0.
+/// Since 1.1.
 #[unsafe(no_mangle)]
 pub extern "C" fn yurewha_session_free(alloc: Global, session: &mut SessionHandle)
     ensures { session.new.value ≡ None }

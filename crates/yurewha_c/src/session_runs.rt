@@ -20,7 +20,7 @@ use xet_merkle::merkle_hash_subtree::MerkleHashSubtree;
 /// - `DONE`: it is written.
 /// - `EMPTY_HANDLE`: the handle is empty.
 ///
-/// Since 1.0.
+/// Since 1.1.
 #[unsafe(no_mangle)]
 pub extern "C" fn yurewha_session_num_runs(
     alloc: Global,
@@ -66,7 +66,7 @@ fn copied_run(session: &Session, index: usize) -> Result<(u64, MerkleHashSubtree
 /// - `ARGUMENTS`: if and only if there is a session, and it has no such run.
 /// - `MEMORY`: an allocation failed.
 ///
-/// Since 1.0.
+/// Since 1.1.
 #[unsafe(no_mangle)]
 pub extern "C" fn yurewha_session_run(
     alloc: Global,

@@ -60,7 +60,7 @@ pub extern "C" fn yurewha_session_to_json(
 /// can't.
 ///
 /// - `DONE`: it is read.
-/// - `TEXT`: the text isn't UTF-8 or isn't JSON, or an object in it has a member twice.
+/// - `TEXT`: the text isn't UTF-8, isn't JSON, is nested more than 32 deep, or has a member twice in an object.
 /// - `SESSION_RULE` + rule: the value breaks this rule, and none with a lower number:
 ///   1. it is an object
 ///   2. `runs` and `known_hashes` are arrays

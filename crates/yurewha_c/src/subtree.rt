@@ -23,7 +23,7 @@ use xet_merkle::merkle_hash_subtree::MerkleHashSubtree;
 /// - `SIZES`: if and only if the sizes add up to more than 2^64 - 1.
 /// - `MEMORY`: an allocation failed.
 ///
-/// Since 1.0.
+/// Since 1.1.
 #[unsafe(no_mangle)]
 pub extern "C" fn yurewha_subtree_from_chunks(
     alloc: Global,
@@ -51,7 +51,7 @@ pub extern "C" fn yurewha_subtree_from_chunks(
 /// - `MEMORY`: an allocation failed.
 /// - `EMPTY_HANDLE`: if and only if the first handle is empty.
 ///
-/// Since 1.0.
+/// Since 1.1.
 #[unsafe(no_mangle)]
 pub extern "C" fn yurewha_subtree_clone(
     alloc: Global,
@@ -84,7 +84,7 @@ fn are_equal(first: &MerkleHashSubtree, second: &MerkleHashSubtree) -> bool
 /// - `DONE`: it is written.
 /// - `EMPTY_HANDLE`: a handle is empty.
 ///
-/// Since 1.0.
+/// Since 1.1.
 #[unsafe(no_mangle)]
 pub extern "C" fn yurewha_subtree_equal(
     alloc: Global,
@@ -122,7 +122,7 @@ pub extern "C" fn yurewha_subtree_equal(
 /// - `DONE`: they are written.
 /// - `EMPTY_HANDLE`: the handle is empty.
 ///
-/// Since 1.0.
+/// Since 1.1.
 #[unsafe(no_mangle)]
 pub extern "C" fn yurewha_subtree_marks(
     alloc: Global,
@@ -148,7 +148,7 @@ pub extern "C" fn yurewha_subtree_marks(
 /// - `DONE`: it is written.
 /// - `EMPTY_HANDLE`: the handle is empty.
 ///
-/// Since 1.0.
+/// Since 1.1.
 #[unsafe(no_mangle)]
 pub extern "C" fn yurewha_subtree_total_size(
     alloc: Global,
@@ -170,7 +170,7 @@ pub extern "C" fn yurewha_subtree_total_size(
 /// - `DONE`: it is written.
 /// - `EMPTY_HANDLE`: the handle is empty.
 ///
-/// Since 1.0.
+/// Since 1.1.
 #[unsafe(no_mangle)]
 pub extern "C" fn yurewha_subtree_num_nodes(
     alloc: Global,
@@ -192,7 +192,7 @@ pub extern "C" fn yurewha_subtree_num_nodes(
 /// - `DONE`: it is written.
 /// - `EMPTY_HANDLE`: the handle is empty.
 ///
-/// Since 1.0.
+/// Since 1.1.
 #[unsafe(no_mangle)]
 pub extern "C" fn yurewha_subtree_num_levels(
     alloc: Global,
@@ -215,7 +215,7 @@ pub extern "C" fn yurewha_subtree_num_levels(
 /// - `ARGUMENTS`: an end isn't marked, so there is no root yet.
 /// - `EMPTY_HANDLE`: the handle is empty.
 ///
-/// Since 1.0.
+/// Since 1.1.
 #[unsafe(no_mangle)]
 pub extern "C" fn yurewha_subtree_final_hash(
     alloc: Global,
@@ -248,7 +248,7 @@ pub extern "C" fn yurewha_subtree_final_hash(
 
 /// Frees what the handle owns, and leaves it empty.
 ///
-/// Since 1.0.
+/// Since 1.1.
 #[unsafe(no_mangle)]
 pub extern "C" fn yurewha_subtree_free(alloc: Global, subtree: &mut SubtreeHandle)
     ensures { subtree.new.value ≡ None }

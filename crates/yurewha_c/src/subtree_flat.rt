@@ -43,7 +43,7 @@ pub(crate) fn counts_of(alloc: Global, levels: &[Level]) -> Result<Vec<(usize, u
 ///   number.
 /// - `MEMORY`: an allocation failed; this may be returned instead of a rule.
 ///
-/// Since 1.0.
+/// Since 1.1.
 #[unsafe(no_mangle)]
 pub extern "C" fn yurewha_subtree_from_flat(
     alloc: Global,
@@ -156,7 +156,7 @@ fn write_flat(subtree: &MerkleHashSubtree, levels: &mut [Level], nodes: &mut [Ch
 ///   needed lengths.
 /// - `EMPTY_HANDLE`: if and only if the handle is empty.
 ///
-/// Since 1.0.
+/// Since 1.1.
 #[unsafe(no_mangle)]
 pub extern "C" fn yurewha_subtree_to_flat(
     alloc: Global,

@@ -25,7 +25,7 @@ use xet_merkle::merkle_hash_subtree::MerkleHashSubtree;
 /// - `SIZES`: if and only if neither of these applies, and the two sizes add up to more than 2^64 - 1.
 /// - `MEMORY`: an allocation failed.
 ///
-/// Since 1.0.
+/// Since 1.1.
 #[unsafe(no_mangle)]
 pub extern "C" fn yurewha_subtree_merge_into(
     alloc: Global,
@@ -52,7 +52,7 @@ pub extern "C" fn yurewha_subtree_merge_into(
 /// Does the same as `yurewha_subtree_merge_into`, and writes how many parents were hashed for it, or 2^64 - 1 if there
 /// were more. The statuses are those of `yurewha_subtree_merge_into`.
 ///
-/// Since 1.0.
+/// Since 1.1.
 #[unsafe(no_mangle)]
 pub extern "C" fn yurewha_subtree_merge_into_counted(
     alloc: Global,
@@ -144,7 +144,7 @@ fn merge_held(alloc: Global, ranges: &mut [SubtreeHandle]) -> Result<MerkleHashS
 /// - `SIZES`: if and only if neither of these applies, and the sizes of all ranges add up to more than 2^64 - 1.
 /// - `MEMORY`: an allocation failed.
 ///
-/// Since 1.0.
+/// Since 1.1.
 #[unsafe(no_mangle)]
 pub extern "C" fn yurewha_subtree_merge(
     alloc: Global,

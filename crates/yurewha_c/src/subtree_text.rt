@@ -1,8 +1,8 @@
 //! Subtrees as JSON text.
 
-ghost use Rattle.std.specs.Prelude.{◌≡◌, ◌≢◌, ◌⊎◌, ◌↔◌, ℕ, ◌+◌, ◌<◌, ◌≤◌, Some, None, IfOk, IsSomeAnd, IsUtf8, ◌++◌, drop, length};
+ghost use Rattle.std.specs.Prelude.{◌≡◌, ◌≢◌, ◌⊎◌, ◌↔◌, ℕ, ◌+◌, ◌<◌, ◌≤◌, None, IsSomeAnd, ◌++◌, drop, length};
 ghost use Rattle.serde_json.specs.Data.{Data};
-ghost use Rattle.serde_json.specs.Read.{read};
+ghost use Rattle.json_text.specs.JsonText.{IsJsonText};
 ghost use Rattle.serde_json.specs.Written.{compact_text};
 ghost use Rattle.xet_merkle.specs.JsonRules.{BreaksRule, Reads};
 ghost use Rattle.xet_merkle.specs.SubtreeJson.{subtree_json};
@@ -10,7 +10,7 @@ ghost use Rattle.xet_merkle.specs.SubtreeJson.{subtree_json};
 use crate::status::{DONE, EMPTY_HANDLE, MEMORY, ROOM, RULE, TEXT, status_of};
 use crate::subtree_handle::SubtreeHandle;
 use crate::text::write_text;
-use serde_json::Value;
+use json_text::reading::{TextFault, read};
 use session_json::reading_back::read_back;
 use session_json::subtree_text::subtree_text;
 use std::alloc::Global;
@@ -23,7 +23,7 @@ use xet_merkle::merkle_hash_subtree::MerkleHashSubtree;
 /// - `MEMORY`: an allocation failed.
 /// - `EMPTY_HANDLE`: if and only if the handle is empty.
 ///
-/// Since 1.0.
+/// Since 1.1.
 #[unsafe(no_mangle)]
 pub extern "C" fn yurewha_subtree_to_json(
     alloc: Global,
@@ -60,7 +60,7 @@ pub extern "C" fn yurewha_subtree_to_json(
 /// right nodes of all levels, highest level first.
 ///
 /// - `DONE`: it is read.
-/// - `TEXT`: the text isn't UTF-8, or isn't JSON.
+/// - `TEXT`: the text isn't UTF-8, isn't JSON, or is nested more than 32 deep.
 /// - `RULE` + rule: the value breaks this rule, and none with a lower number:
 ///   1. it is an object
 ///   2. `nodes` and `levels` are arrays, and `at_start` and `at_end` are booleans
@@ -77,7 +77,7 @@ pub extern "C" fn yurewha_subtree_to_json(
 ///   13. without `at_end`, right nodes below the top begin like the nodes after a last stable point
 /// - `MEMORY`: an allocation failed; this may be returned instead of `TEXT` or a rule.
 ///
-/// Since 1.0.
+/// Since 1.1.
 #[unsafe(no_mangle)]
 pub extern "C" fn yurewha_subtree_from_json(
     alloc: Global,
@@ -85,11 +85,11 @@ pub extern "C" fn yurewha_subtree_from_json(
     subtree: &mut SubtreeHandle,
 ) -> u32
     ensures reads { result ≡ DONE → IsSomeAnd subtree.new.value (λ made.
-        (json : Data) × IsUtf8 text.now × (read text.now ≡ Some json) × Reads json made) }
-    ensures text { result ≡ TEXT → IsUtf8 text.now → read text.now ≡ None }
+        (json : Data) × IsJsonText text.now json × Reads json made) }
+    ensures text { result ≡ TEXT → (json : Data) → ¬ (IsJsonText text.now json) }
     ensures statuses { (result ≡ DONE) ⊎ ((result ≡ TEXT) ⊎ ((result ≡ MEMORY)
         ⊎ ((rule : ℕ) × (result ≡ RULE + rule)
-        × (json : Data) × IsUtf8 text.now × (read text.now ≡ Some json) × BreaksRule json rule))) }
+        × (json : Data) × IsJsonText text.now json × BreaksRule json rule))) }
     ensures unchanged { result ≢ DONE → subtree.new.value ≡ subtree.old.value }
 {
     match read_back(alloc, text) {
@@ -97,9 +97,10 @@ pub extern "C" fn yurewha_subtree_from_json(
         Ok(None) => {}
         Err(_) => return MEMORY,
     }
-    let value = match Value::from_slice(alloc, text) {
+    let value = match read(alloc, text) {
         Ok(value) => value,
-        Err(error) => return if error.is_memory() { MEMORY } else { TEXT },
+        Err(TextFault::Text) => return TEXT,
+        Err(TextFault::Memory) => return MEMORY,
     };
     match MerkleHashSubtree::from_json(alloc, &value) {
         Ok(made) => subtree.hold(alloc, made),

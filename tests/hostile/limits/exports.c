@@ -15,7 +15,7 @@
 #include <string.h>
 #include <sys/mman.h>
 
-enum { COUNT = 100000, STACK = 1 << 22, FILL = 0x5A, DEEPEST = 127 };
+enum { COUNT = 100000, STACK = 1 << 22, FILL = 0x5A, DEEPEST = 32 };
 
 static struct {
     size_t held;
@@ -112,6 +112,26 @@ static void hashers(void)
     yurewha_hasher_begin_data(&hasher);
     expect(yurewha_hasher_update(&hasher, (const uint8_t *)it.bytes, COUNT));
     yurewha_hasher_finalize(&hasher, &it.hash);
+}
+
+/* A file of COUNT chunks, which all have the same bytes: 0, 148, 143 again and again. */
+static void file_hashers(void)
+{
+    static char chunk[3 * 2731];
+    yurewha_file_hasher file = {0};
+    yurewha_chunker chunker;
+    for (size_t i = 0; i < sizeof chunk; i++)
+        chunk[i] = "\0\x94\x8f"[i % 3];
+    yurewha_chunker_begin(&chunker);
+    if (yurewha_chunker_next_boundary(&chunker, chunk, sizeof chunk) != sizeof chunk || yurewha_chunker_taken(&chunker) != 0)
+        abort();
+    expect(yurewha_file_hasher_new(&file));
+    for (size_t i = 0; i < COUNT; i++)
+        expect(yurewha_file_hasher_update(&file, chunk, sizeof chunk));
+    expect(yurewha_file_hasher_size(&file, &it.number));
+    expect(yurewha_file_hasher_root(&file, &it.hash));
+    expect(yurewha_file_hasher_finish(&file, &it.hash));
+    yurewha_file_hasher_free(&file);
 }
 
 static void roots_of(size_t kind)
@@ -343,6 +363,7 @@ int main(void)
         void (*run)(void);
     } families[] = {
         FAMILY(hashes),        FAMILY(base64),           FAMILY(hashers),
+        FAMILY(file_hashers),
         FAMILY(roots),         FAMILY(roots_without_cuts), FAMILY(stable_points),
         FAMILY(subtrees),      FAMILY(subtrees_without_cuts), FAMILY(merges),
         FAMILY(merges_without_cuts), FAMILY(json),       FAMILY(json_without_cuts),

@@ -9,7 +9,7 @@ import sys
 from typing import Callable, Iterable
 
 from . import (hash_indexes, hashes, json_texts, merges, range_proofs, roots, schemas, session_scripts, session_texts, sessions, subtrees,
-               texts, upstream)
+               texts, upstream, whole_files)
 from .files import FOLDER, File, differences
 from .scripts import Script
 from .steps import script_of
@@ -17,7 +17,7 @@ from .steps import script_of
 Maker = Callable[[], File]
 # What makes each file, the longest ones first. The answers of upstream.json aren't the model's: they are kept, and compared.
 FILES: dict[str, Maker] = {
-    "upstream": upstream.kept_file, "subtrees": subtrees.file, "roots": roots.file, "merges": merges.file, "hashes": hashes.file,
+    "upstream": upstream.kept_file, "subtrees": subtrees.file, "roots": roots.file, "merges": merges.file, "hashes": hashes.file, "files": whole_files.file,
     "range_proofs": range_proofs.file, "subtree_json": json_texts.file, "sessions": sessions.file, "session_json": session_texts.file,
     "texts": texts.file}
 BY_MODEL = {**FILES, "upstream": upstream.model_file}

@@ -57,7 +57,9 @@ FILE: Schema = {"oneOf": [
     record({"numbers": record({"first": COUNT, "count": COUNT, "lengths": array(COUNT, minItems=1)})}),
     record({"chunkBytes": array(ref("bytes"))}),
 ]}
-DEFINITIONS: Schema = {"hash": HASH, "number": NUMBER, "key": KEY, "bytes": HEX, "list": LIST, "file": FILE, "levels": LEVELS,
+PART = array(COUNT, minItems=2, maxItems=2)
+DATA: Schema = {"oneOf": [HEX, record({"message": PART}), record({"mixed": PART}), record({"repeated": HEX, "part": PART})]}
+DEFINITIONS: Schema = {"hash": HASH, "number": NUMBER, "key": KEY, "bytes": HEX, "data": DATA, "list": LIST, "file": FILE, "levels": LEVELS,
                        "range": RANGE,
                        "places": {"anyOf": [COUNT, array(ref("places"), minItems=2, maxItems=2)]}}
 
@@ -92,6 +94,13 @@ def hashes() -> list[Schema]:
         group("RandomFromSeed", test({"seed": ref("number"), "hash": ref("hash")})),
         group("Hmac", test({"hash": ref("hash"), "key": ref("hash"), "hmac": ref("hash")})),
     ]
+
+
+def files() -> list[Schema]:
+    """The groups of files.json."""
+    salted = array(record({"saltBytes": ref("key"), "fileHash": ref("hash")}))
+    return [group("FileHash", test({"pieces": array(ref("data")), "cuts": array(COUNT), "root": ref("hash"), "fileHash": ref("hash"),
+                                    "salted": salted}))]
 
 
 def texts() -> list[Schema]:
@@ -228,7 +237,7 @@ def upstream() -> list[Schema]:
     return [it for it in roots() + subtrees() if it["properties"]["type"] in (one_of("Root"), one_of("Subtree"))]
 
 
-SCHEMAS = {"hashes": hashes, "texts": texts, "roots": roots, "subtrees": subtrees, "merges": merges,
+SCHEMAS = {"hashes": hashes, "files": files, "texts": texts, "roots": roots, "subtrees": subtrees, "merges": merges,
            "subtree_json": subtree_json, "sessions": sessions, "session_json": session_json, "range_proofs": range_proofs,
            "upstream": upstream}
 
@@ -270,10 +279,9 @@ def text(name: str) -> str:
 NAME: Schema = {"type": "string", "pattern": "^[a-z]+[0-9]*$", "description": "the name of an object of the test"}
 SAID: Schema = {"oneOf": [{"type": "integer", "minimum": 0, "maximum": 2**53 - 1}, {"type": "string", "pattern": "^[1-9][0-9]{15,19}$"}],
                 "description": "a whole number below 2^64, which is a text if it is 2^53 or more"}
-PART = array(COUNT, minItems=2, maxItems=2)
 KINDS: dict[str, Schema] = {
     "object": NAME, "number": SAID, "bool": TRUTH, "text": TEXT, "hash": HASH, "bytes": KEY, "hashes": array(ref("hash")), "numbers": array(SAID),
-    "data": {"oneOf": [HEX, record({"message": PART})]},
+    "data": DATA,
     "chunks": {"oneOf": [NAME, *({**rule, "properties": {**rule["properties"], "part": PART}} for rule in FILE["oneOf"])]},
     "levels": array(array(SAID, minItems=2, maxItems=2)), "subtrees": array(NAME)}
 ANSWER: Schema = {"oneOf": [

@@ -19,6 +19,10 @@ CALLS = {
     "hex": "hash", "from_hex": "text", "base64": "hash", "from_base64": "text",
     "hasher_begin_data": "", "hasher_begin_internal": "", "hasher_begin_keyed": "bytes", "hasher_count": "hasher", "hasher_update": "hasher data",
     "hasher_finalize": "hasher",
+    # Files.
+    "chunker_begin": "", "chunker_next_boundary": "chunker data", "chunker_taken": "chunker", "file_hasher_new": "",
+    "file_hasher_update": "file_hasher data", "file_hasher_size": "file_hasher", "file_hasher_root": "file_hasher",
+    "file_hasher_finish": "file_hasher", "file_hasher_finish_with_salt": "file_hasher bytes",
     # Lists of chunks.
     "chunks": "chunks", "xorb_hash": "chunks", "file_hash": "chunks", "file_hash_with_salt": "chunks bytes",
     "find_stable_start": "chunks", "find_stable_end": "chunks",

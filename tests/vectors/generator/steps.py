@@ -5,7 +5,7 @@ from __future__ import annotations
 import itertools
 from typing import Any, Callable, Iterable, Iterator, Union
 
-from . import lists
+from . import lists, whole_files
 from .files import File, Group, Test
 from .hashes import message
 from .model import m, range_proof
@@ -67,6 +67,40 @@ def piece_hash(_: Group, it: Test) -> Steps:
     yield refused("data_hashes", data(0, at), [*offsets, at + 1], error="ARGUMENTS")
     if at > 1:
         yield refused("data_hashes", data(0, at), [0, at, at - 1], error="ARGUMENTS")
+
+
+def chunk_ends(pieces: list[whole_files.Said]) -> Steps:
+    """Where the chunks of a file end, by a chunker that gets its pieces."""
+    file = b"".join(map(whole_files.bytes_of, pieces))
+    ends = whole_files.ends_of(file)
+    at = last = 0
+    yield call("chunker_begin", makes="c")
+    for piece in pieces:
+        length = len(whole_files.bytes_of(piece))
+        inside = [end for end in ends if at < end <= at + length]
+        places = [at, *inside]
+        for start, end in zip(places, inside):
+            yield call("chunker_next_boundary", "c", whole_files.part_of(piece, start - at, length), gives=end - start)
+        yield call("chunker_next_boundary", "c", whole_files.part_of(piece, places[-1] - at, length), gives=None)
+        at, last = at + length, inside[-1] if inside else last
+        yield call("chunker_taken", "c", gives=at - last)
+
+
+def file_hash(_: Group, it: Test) -> Steps:
+    """A file in pieces: its chunks, and its hashes, which can also be asked for before its end."""
+    yield from chunk_ends(it["pieces"])
+    yield call("file_hasher_new", makes="f")
+    for place, piece in enumerate(it["pieces"]):
+        yield call("file_hasher_update", "f", piece)
+        if place == 0 and 1 < len(it["pieces"]) < 9:
+            begun = whole_files.a_file("", piece)
+            yield call("file_hasher_root", "f", gives=begun["root"])
+            yield call("file_hasher_finish", "f", gives=begun["fileHash"])
+    yield call("file_hasher_size", "f", gives=it["cuts"][-1] if it["cuts"] else 0)
+    yield call("file_hasher_root", "f", gives=it["root"])
+    yield call("file_hasher_finish", "f", gives=it["fileHash"])
+    for row in [{"saltBytes": NO_SALT, "fileHash": it["fileHash"]}, *it["salted"]]:
+        yield call("file_hasher_finish_with_salt", "f", row["saltBytes"], gives=row["fileHash"])
 
 
 def key(_: Group, it: Test) -> Steps:
@@ -412,7 +446,7 @@ def proof_bytes(_: Group, it: Test) -> Steps:
 
 
 KINDS: dict[str, Callable[[Group, Test], Iterable[Step]]] = {
-    "MessageHash": message_hash, "PieceHash": piece_hash, "Key": key, "RandomFromSeed": random_from_seed, "Hmac": hmac,
+    "MessageHash": message_hash, "PieceHash": piece_hash, "FileHash": file_hash, "Key": key, "RandomFromSeed": random_from_seed, "Hmac": hmac,
     "HashForms": hash_forms, "HexText": text_of_a_hash("from_hex"), "Base64Text": text_of_a_hash("from_base64"),
     "HashOrder": hash_order, "Root": root, "Parent": parent, "RootSteps": root_steps, "StablePoints": stable_points,
     "Subtree": subtree, "Merge": merge, "MergeRefused": merge_refused, "Bracketing": bracketing,

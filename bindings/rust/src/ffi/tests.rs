@@ -1,4 +1,4 @@
-//! Tests of the calls that no other module makes.
+//! Tests of calls, and of refusals, to which no other module comes.
 
 use super::*;
 use crate::merklehash::compute_data_hash;

@@ -440,7 +440,8 @@ impl MerkleHashSubtree {
     /// 7. The sizes of all nodes add up to at most 2^64 - 1.
     /// 8. The top level has no right nodes. With `at_end`, no level has any.
     /// 9. With `at_start`, no level below the top has left nodes. `xet-core-structures` keeps some if a range that is
-    ///    marked at its start is merged with the next one. Make such a subtree anew from the list of its chunks.
+    ///    marked at its start is merged with the next one; so it breaks rule 12 if other ranges are merged. Make such a
+    ///    subtree anew from the list of its chunks.
     /// 10. With both marks, the top level has at most one node.
     /// 11. If there are several levels, the top level has a node.
     /// 12. Without `at_start`, left nodes below the top end like the nodes before a first stable point.

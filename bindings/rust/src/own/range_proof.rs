@@ -613,13 +613,6 @@ pub enum OpenFault {
     OutOfMemory,
 }
 
-impl OpenFault {
-    /// The old name of [`ProofMismatch`](Self::ProofMismatch).
-    #[deprecated(since = "1.1.0", note = "use `ProofMismatch`, as in Python and JavaScript")]
-    #[allow(non_upper_case_globals)]
-    pub const Mismatch: Self = OpenFault::ProofMismatch;
-}
-
 impl fmt::Display for OpenFault {
     fn fmt(&self, f: &mut fmt::Formatter<'_>) -> fmt::Result {
         match self {

@@ -43,13 +43,6 @@ pub enum SessionFault {
     Gap,
 }
 
-impl SessionFault {
-    /// The old name of [`OutOfMemory`](Self::OutOfMemory).
-    #[deprecated(since = "1.1.0", note = "use `OutOfMemory`, as in Python and JavaScript")]
-    #[allow(non_upper_case_globals)]
-    pub const Memory: Self = SessionFault::OutOfMemory;
-}
-
 impl fmt::Display for SessionFault {
     fn fmt(&self, f: &mut fmt::Formatter<'_>) -> fmt::Result {
         match self {

@@ -148,3 +148,33 @@ fn errors_have_their_texts() {
         assert_eq!(error.to_string(), text);
     }
 }
+
+// Each line has the rule that refuses a text, or `read`, a list of chunks of size 1, of which those that are natural cuts
+// are bars, and the text that `xet-core-structures` 1.5.2 saved after it had merged ranges of them.
+const SAVED_BY_XET_CORE: &str = include_str!("saved_by_xet_core.txt");
+
+#[test]
+fn what_xet_core_saves_of_merged_ranges_is_refused_with_the_cause_or_is_another_subtree() {
+    let mut fates = Vec::new();
+    for line in SAVED_BY_XET_CORE.lines() {
+        let [fate, pattern, text] = line.splitn(3, ' ').collect::<Vec<_>>()[..] else {
+            panic!("{line}");
+        };
+        let node = |(i, letter)| (DataHash::from([i, 0, 0, u64::from(letter != '|')]), 1);
+        let chunks: Vec<_> = (1..).zip(pattern.chars()).map(node).collect();
+        let ours = MerkleHashSubtree::from_chunks(text.contains(r#""at_start":true"#), &chunks, false);
+        match MerkleHashSubtree::from_json(text) {
+            Ok(read) => assert_eq!(
+                (fate, read == ours, read.total_size()),
+                ("read", false, ours.total_size())
+            ),
+            Err(error) => {
+                let told = error.to_string();
+                assert!(told.contains(&format!("rule {fate}:")), "{told}");
+                assert!(told.contains("xet-core-structures") && told.contains("anew"), "{told}");
+            }
+        }
+        fates.push(fate);
+    }
+    assert_eq!(fates, ["9", "12", "read"]);
+}

@@ -7,6 +7,7 @@ mod differences;
 #[cfg(feature = "digest")]
 mod digest;
 mod draws;
+mod files;
 #[cfg(feature = "serde")]
 mod forms;
 mod hash_indexes;

@@ -1,8 +1,9 @@
 //! The hasher that hands a number on, and the map over it.
 
 use crate::draws::Draws;
+use std::cell::Cell;
 use std::collections::HashMap;
-use std::hash::{BuildHasher, Hasher};
+use std::hash::{BuildHasher, Hash, Hasher};
 use yurewha::merklehash::{DataHash, PassThroughHashMap, U64DirectHasher, U64HashExtractable};
 
 #[test]
@@ -133,6 +134,47 @@ fn the_pairs_of_another_map_are_collected_in_its_order() {
             assert!(copy.capacity() <= 2 * source.len() + 3);
         }
     }
+}
+
+// A key that counts how often it is compared on its thread.
+#[derive(Clone, Copy)]
+struct Compared(u64);
+
+thread_local! {
+    static COMPARED: Cell<usize> = const { Cell::new(0) };
+}
+
+impl PartialEq for Compared {
+    fn eq(&self, other: &Self) -> bool {
+        COMPARED.set(COMPARED.get() + 1);
+        self.0 == other.0
+    }
+}
+
+impl Eq for Compared {}
+
+impl Hash for Compared {
+    fn hash<H: Hasher>(&self, hasher: &mut H) {
+        hasher.write_u64(self.0);
+    }
+}
+
+impl U64HashExtractable for Compared {
+    fn u64_hash_value(&self) -> u64 {
+        self.0
+    }
+}
+
+// In a map that is too small for them, pairs in the order of another map meet at the same places, and each is compared with many.
+#[test]
+fn collecting_the_pairs_of_another_map_compares_few_keys() {
+    let mut draws = Draws(7);
+    let source: PassThroughHashMap<_, _> = (0..20_000).map(|_| (Compared(draws.number()), ())).collect();
+    let pairs = || source.iter().map(|(key, ())| (*key, ()));
+    COMPARED.set(0);
+    let copies: [PassThroughHashMap<_, _>; 2] = [pairs().filter(|_| true).collect(), Announcing(pairs(), 0).collect()];
+    assert_eq!(copies.map(|copy| copy.len()), [20_000, 20_000]);
+    assert!(COMPARED.get() < 2000, "{}", COMPARED.get());
 }
 
 #[test]

@@ -70,6 +70,15 @@ fn own_items_have_their_signatures() {
     let _: fn(&own::OpenedRange) -> Result<own::OpenedRange> = own::OpenedRange::try_clone;
     let _: fn(&str) -> std::result::Result<MerkleHash, own::HexError> = own::parse_hex;
     let _: fn(io::Empty, Vec<usize>, NonZeroUsize) -> io::Result<Vec<own::Node>> = own::hash_chunks;
+    let _: fn(io::Empty, NonZeroUsize) -> io::Result<MerkleHash> = own::hash_reader;
+    let _: fn(&'static str, NonZeroUsize) -> io::Result<MerkleHash> = own::hash_file;
+    let _: fn(&mut own::Chunker, &[u8]) -> Option<usize> = own::Chunker::next_boundary;
+    let _: fn(&own::Chunker) -> usize = own::Chunker::taken;
+    let _: fn() -> Result<own::FileHasher> = own::FileHasher::try_new;
+    let _: for<'h> fn(&'h mut own::FileHasher, &[u8]) -> Result<&'h mut own::FileHasher> = own::FileHasher::update;
+    let _: [fn(&own::FileHasher) -> Result<MerkleHash>; 2] = [own::FileHasher::root, own::FileHasher::file_hash];
+    let _: fn(&own::FileHasher, &[u8; 32]) -> Result<MerkleHash> = own::FileHasher::file_hash_with_salt;
+    let _: fn(&own::FileHasher) -> u64 = own::FileHasher::size;
     let _: fn(&Subtree) -> Result<String> = Subtree::to_json;
     let _: fn(&str) -> Result<Subtree> = Subtree::from_json;
 }
@@ -104,6 +113,12 @@ fn values_have_the_traits_of_values() {
     compared::<own::HashIndex>();
     fn copied<T: Copy>() {}
     copied::<own::Difference>();
+    copied::<own::Chunker>();
+    value::<own::Chunker>();
+    default::<own::Chunker>();
+    default::<own::FileHasher>();
+    fn writer<T: io::Write + std::fmt::Debug + Send + Sync>() {}
+    writer::<own::FileHasher>();
     key::<own::Difference>();
     compared::<own::Session>();
     compared::<own::RangeProof>();
@@ -149,27 +164,6 @@ fn errors_may_get_more_variants() {
     };
 }
 
-// Each can be written where the new name can, except that a pattern can't have the first.
-#[allow(deprecated)]
-#[test]
-fn old_names_of_errors_mean_the_new_ones() {
-    assert_eq!(CoreError::InvalidProofJson(8), CoreError::InvalidProof(8));
-    let of_session = |fault| match fault {
-        own::SessionFault::Memory => "memory",
-        _ => "another",
-    };
-    assert_eq!(of_session(own::SessionFault::OutOfMemory), "memory");
-    assert_eq!(of_session(own::SessionFault::Gap), "another");
-    assert_eq!(own::SessionFault::Memory, own::SessionFault::OutOfMemory);
-    let of_opening = |fault| match fault {
-        own::OpenFault::Mismatch => "mismatch",
-        _ => "another",
-    };
-    assert_eq!(of_opening(own::OpenFault::ProofMismatch), "mismatch");
-    assert_eq!(of_opening(own::OpenFault::OutOfMemory), "another");
-    assert_eq!(own::OpenFault::Mismatch, own::OpenFault::ProofMismatch);
-}
-
 // Names of a user's own, each the name of an item or module of this crate that the Rust crate doesn't have. If a glob
 // brought one of them in as well, its use below would be an error.
 #[allow(dead_code)]
@@ -185,16 +179,19 @@ mod of_the_user {
     }
     unit_structs!(Node Session SessionFault Hasher HashTextError CoreError Result Owned);
     unit_structs!(HashTree RangeProof OpenedRange OpenError OpenFault HexError);
-    unit_structs!(VerifiedReader WantedPart PartFault OtherFile Difference HashIndex);
+    unit_structs!(VerifiedReader WantedPart PartFault OtherFile Difference HashIndex Chunker FileHasher);
     pub fn parse_hex() {}
     pub fn hash_chunks() {}
+    pub fn hash_file() {}
+    pub fn hash_reader() {}
+    pub fn chunks_of() {}
     pub fn try_xorb_hash() {}
     pub fn try_file_hash() {}
     pub fn try_file_hash_with_salt() {}
     pub fn try_find_stable_start() {}
     pub fn try_find_stable_end() {}
     constants!(DATA_KEY);
-    modules!(blake3 range_proof in_form hash_index session own error errors forms lent_chunks hashed_write roots stable_points json_text serde);
+    modules!(blake3 range_proof in_form hash_index chunker file_hasher reading session own error errors forms lent_chunks hashed_write roots stable_points json_text serde);
 }
 
 // The alias is beside the modules, as in the Rust crate, not in one of them.
@@ -278,7 +275,10 @@ mod through_globs {
         );
         let _ = (HashTree, RangeProof, OpenedRange, OpenError, OpenFault);
         let _ = (VerifiedReader, WantedPart, PartFault, OtherFile);
-        let _ = (Difference, HashIndex);
+        let _ = (Difference, HashIndex, Chunker, FileHasher);
+        hash_file();
+        hash_reader();
+        chunks_of();
         try_xorb_hash();
         try_file_hash();
         try_file_hash_with_salt();
@@ -289,6 +289,9 @@ mod through_globs {
             range_proof::ONE,
             in_form::ONE,
             hash_index::ONE,
+            chunker::ONE,
+            file_hasher::ONE,
+            reading::ONE,
             session::ONE,
             own::ONE,
             error::ONE,
@@ -301,7 +304,7 @@ mod through_globs {
             json_text::ONE,
             serde::ONE,
         ];
-        assert_eq!(modules, [1; 15]);
+        assert_eq!(modules, [1; 18]);
         assert_eq!(DATA_KEY, 0);
     }
 }

@@ -7,11 +7,14 @@ use std::panic::{RefUnwindSafe, UnwindSafe};
 use std::rc::Rc;
 use std::sync::{Arc, OnceLock};
 use std::thread;
+use yurewha::error::CoreError;
 use yurewha::merklehash::{
-    compute_data_hash, file_hash, xorb_hash, DataHash, HashedWrite, MerkleHashSubtree, PassThroughHashMap,
+    compute_data_hash, file_hash, xorb_hash, DataHash, DataHashBytesParseError, DataHashHexParseError, HashedWrite,
+    MerkleHashSubtree, PassThroughHashMap, U64DirectHasher,
 };
 use yurewha::own::{
-    self, HashIndex, HashTree, OpenedRange, RangeProof, Session, SessionFault, VerifiedReader, WantedPart,
+    self, Chunker, FileHasher, HashIndex, HashTree, OpenedRange, RangeProof, Session, SessionFault, VerifiedReader,
+    WantedPart,
 };
 
 const fn assert_send_and_sync<T: Send + Sync>() {}
@@ -29,6 +32,22 @@ const _: () = {
     assert_send_and_sync::<WantedPart>();
     assert_send_and_sync::<DataHash>();
     assert_send_and_sync::<own::Hasher>();
+    assert_send_and_sync::<Chunker>();
+    assert_send_and_sync::<FileHasher>();
+    assert_send_and_sync::<HashedWrite<Vec<u8>>>();
+    assert_send_and_sync::<PassThroughHashMap<DataHash, String>>();
+    assert_send_and_sync::<U64DirectHasher<DataHash>>();
+    assert_send_and_sync::<CoreError>();
+    assert_send_and_sync::<DataHashBytesParseError>();
+    assert_send_and_sync::<DataHashHexParseError>();
+    assert_send_and_sync::<own::HashTextError>();
+    assert_send_and_sync::<own::HexError>();
+    assert_send_and_sync::<own::Difference>();
+    assert_send_and_sync::<own::OpenError>();
+    assert_send_and_sync::<own::OpenFault>();
+    assert_send_and_sync::<own::OtherFile>();
+    assert_send_and_sync::<own::PartFault>();
+    assert_send_and_sync::<SessionFault>();
     assert_unwind_safe::<MerkleHashSubtree>();
     assert_unwind_safe::<Session>();
     assert_unwind_safe::<HashTree>();
@@ -37,6 +56,8 @@ const _: () = {
     assert_unwind_safe::<OpenedRange>();
     assert_unwind_safe::<VerifiedReader>();
     assert_unwind_safe::<WantedPart>();
+    assert_unwind_safe::<Chunker>();
+    assert_unwind_safe::<FileHasher>();
 };
 
 // Ambiguous, and so no program, for a type that is `Send`.
@@ -287,4 +308,23 @@ fn a_subtree_stands_in_a_static_and_in_a_future_that_is_sent() {
         std::future::ready(()).await;
         held.num_nodes()
     });
+}
+
+#[test]
+fn a_file_hasher_and_chunks_go_to_another_thread() {
+    let mut hasher = FileHasher::new();
+    hasher.update(b"a short ").unwrap();
+    let chunks = own::chunks_of(&b"a short file"[..]);
+    let (hasher, chunks) = thread::spawn(move || {
+        hasher.update(b"file").unwrap();
+        (hasher, chunks.map(Result::unwrap).collect::<Vec<_>>())
+    })
+    .join()
+    .unwrap();
+    thread::scope(|scope| {
+        for _ in 0..THREADS {
+            scope.spawn(|| assert!((0..1000).all(|_| (hasher.size(), hasher.root()) == (12, Ok(chunks[0].0)))));
+        }
+    });
+    assert_eq!(hasher.file_hash(), Ok(file_hash(&chunks)));
 }

@@ -8,7 +8,7 @@
 namespace second {
 namespace {
 
-constexpr unsigned DEEPEST = 127; /* so deep the values of serde_json are nested */
+constexpr unsigned DEEPEST = 32; /* so deep a text may be nested */
 
 /* Reads a text from its beginning on. Each call answers whether the text goes on as it should. */
 class Reader {

@@ -45,7 +45,7 @@ protected:
 
     std::string nested()
     {
-        const size_t depth = 120 + input.below(10);
+        const size_t depth = 25 + input.below(10);
         return std::string(depth, '[') + std::string(depth, ']');
     }
 

@@ -4,6 +4,8 @@
 #[path = "../../../../bindings/rust/tests/api/numbers.rs"]
 mod numbers;
 
+mod fleet;
+
 use numbers::Draws;
 use serde_json::Value;
 use std::fmt::Debug;
@@ -72,6 +74,18 @@ macro_rules! calls_of {
 
             pub fn final_hash(subtree: &Subtree) -> Option<String> {
                 subtree.final_hash().map(|hash| hash.hex())
+            }
+
+            /// The root of a list: of a subtree that is read from a text, between an empty range at the start unless that is marked,
+            /// and the rest of the chunks.
+            pub fn finished(text: &str, at_start: bool, rest: &[Chunk]) -> Result<Option<String>, String> {
+                let read: Subtree = serde_json::from_str(text).map_err(|error| error.to_string())?;
+                let mut ranges = vec![read, subtree(rest, (false, true))];
+                if !at_start {
+                    ranges.insert(0, subtree(&[], (true, false)));
+                }
+                let merges: Vec<_> = (1..ranges.len()).map(|place| (0, place)).collect();
+                Ok(final_hash(&merged(ranges, &merges)))
             }
 
             /// The subtree at place 0 after some merges.
@@ -347,5 +361,6 @@ fn main() -> ExitCode {
             count + 1
         );
     }
+    fleet::compare(&mut found, seed, count / 5);
     ExitCode::from(u8::from(found.differences > 0))
 }

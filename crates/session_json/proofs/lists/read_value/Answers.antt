@@ -1,4 +1,4 @@
-use Rattle.std.proofs.Common.{List, ℕ, inl, inr, refl, sym, ap, subst, ◌∙◌}
+use Rattle.std.proofs.Common.{rules, List, ℕ, inl, inr, refl, sym, ap, subst, ◌∙◌}
 use Rattle.std.specs.Prelude.{IsSomeAnd}
 use Rattle.json.specs.Json.{document}
 use Rattle.json.specs.Strict.{HasUniqueKeys}
@@ -24,6 +24,6 @@ returns-in_err-check_members-clause-errors c =
 
 pub returns-in-Ok-from_str-clause-value : goal.returns-in-Ok-from_str-clause-value
 returns-in-Ok-from_str-clause-value c =
-    strict _ _ c.in-Ok.ensures.cases.1
+    strict _ _ c.in-Ok.ensures.cases.1 (c.is_shallow.ensures.0 (search rules))
     (subst (λ (text : List ℕ). IsSomeAnd (document text) HasUniqueKeys) c.in-Ok.ensures.cases.0 c.in_ok-check_members.ensures.unique)
     (ap read (sym c.in-Ok.ensures.cases.0) ∙ c.in-Ok-from_str.ensures.ok)

@@ -1,6 +1,6 @@
-use Rattle.std.proofs.Common.{arith, ◌≡◌, ◌<◌, ◌^◌, ℕ, Bool, true, false, not, true≢false, IsUtf8, Option, IfSome, List, [], map, refl, sym, ap, subst, ◌∙◌}
+use Rattle.std.proofs.Common.{arith, ◌≡◌, ◌<◌, ◌^◌, ℕ, Bool, true, false, not, true≢false, Option, IfSome, List, [], map, refl, sym, ap, subst, ◌∙◌}
 use Rattle.std.proofs.lemmas.Slice.Eq.{bytes_eq-Decides}
-use Rattle.serde_json.specs.Read.{read}
+use Rattle.json_text.specs.JsonText.{IsJsonText}
 use Rattle.serde_json.specs.Written.{compact_text}
 use Rattle.level_nodes.specs.FlatLevels.{count_of, count_sum, flat_nodes}
 use Rattle.xet_roots.specs.Roots.{total_size}
@@ -10,7 +10,7 @@ use Rattle.subtree_levels.specs.WellFormed.{IsWellFormed}
 use Rattle.xet_merkle.specs.SubtreeJson.{subtree_json}
 use Rattle.xet_merkle.proofs.Json.OneMeaning.{AreHashes, Reads-object}
 use Rattle.xet_merkle.proofs.Levels.Flat.{levels_size-flat}
-use Rattle.session_json.proofs.ReadBack.{count_sum-levels, subtree_utf8, subtree_reads}
+use Rattle.session_json.proofs.ReadBack.{count_sum-levels, subtree_utf8, subtree_shallow, subtree_reads}
 use Rattle.session_json.proofs.reading_back.read_back.Goals as goal
 
 equal : (b : Bool) → false ≡ not b → b ≡ true
@@ -29,10 +29,14 @@ returns c =
     let flat : total_size (flat_nodes subtree.levels []) < 2 ^ 64 = omega (arith, fits, levels_size-flat subtree.levels) in
     let well_formed = subst (λ (read : Option Subtree). IfSome read IsWellFormed) c.in-Some.is c.in_ok-subtree.ensures.well_formed in
     let hashes = subst (λ (read : Option Subtree). IfSome read (λ s. AreHashes (flat_nodes s.levels []))) c.in-Some.is c.in_ok-subtree.ensures.hashes in
+    let is_json : IsJsonText (compact_text (subtree_json subtree)) (subtree_json subtree) = record {
+      utf8 = subtree_utf8 subtree few flat;
+      shallow = subtree_shallow subtree few flat;
+      value_is = subtree_reads subtree few flat;
+    } in
     let says = Reads-object c.hex_text_tells_hashes_apart.ensures c.hex_text_is_lowercase_digits.ensures.digits c.hex_text_is_lowercase_digits.ensures.lowercase
     subtree hashes well_formed fits in (
       subtree_json subtree,
-      subst IsUtf8 (sym written) (subtree_utf8 subtree few flat),
-      ap read written ∙ subtree_reads subtree few flat,
+      subst (λ (text : List ℕ). IsJsonText text (subtree_json subtree)) (sym written) is_json,
       says,
     )

@@ -1,0 +1,358 @@
+"""What a user may choose on the page: in each order, each choice during an earlier one, at the limits, and in odd forms. Each case has a page of
+its own, before which stands page_probe.js."""
+
+from __future__ import annotations
+
+import re
+import shutil
+import tempfile
+import time
+from pathlib import Path
+from typing import Any, Callable, Dict, List
+
+from pages import ROOT, Browser, address_of, choose, drop, error, fill, opened, same, served, text, wait
+import chunker
+import xet_model as m
+
+SMALL = b"a chunk"
+LINES = [((k, 1, 2, 4 + k % 3), 100 + k) for k in range(12)]
+#: What stands on each tab of a choice, all at one moment; last the message that is shown, if one is.
+MESSAGE = """
+    const get = (id) => document.getElementById(id);
+    const message = get("error").hidden ? null : get("error").textContent;
+"""
+SHOWN = {
+    "files": f"""{MESSAGE}
+        const rows = [...get("named").rows, ...get("hashed").rows].map((row) => [...row.cells].map((it) => it.textContent));
+        const roots = get("files-roots").hidden ? null : ["files-count", "files-root", "files-hash"].map((id) => get(id).textContent);
+        const names = ["chunks-of", "pairs-of"].map((id) => [...get(id).files].map((it) => it.name));
+        return [rows, roots, get("progress-said").textContent, names, message];
+    """,
+    "parts": f"""{MESSAGE}
+        const texts = ["part-file-hash", "part-file-size", "sent", "part-verdict", "part-bytes"].map((id) => get(id).textContent);
+        const names = [...get("part-of").files].map((it) => it.name);
+        return [...texts, get("path").childElementCount > 0, get("path").hasAttribute("aria-label"), names, message];
+    """,
+}
+EMPTY_PART = ["", "", "", "", "", False, False]
+
+
+def probed(folder: Path) -> str:
+    """The address of a copy of the page with the probe."""
+    shutil.copytree(ROOT / "web", folder / "web")
+    shutil.copytree(ROOT / "bindings/wasm/yurewha", folder / "bindings/wasm/yurewha")
+    shutil.copy(Path(__file__).with_name("page_probe.js"), folder / "web")
+    page = folder / "web/index.html"
+    main = '<script type="module" src="main.js"></script>'
+    same(page.read_text().count(main), 1)
+    page.write_text(page.read_text().replace(main, f'<script type="module" src="page_probe.js"></script>{main}'))
+    return address_of(served(folder))
+
+
+def state(browser: Browser, tab: str) -> List[Any]:
+    return browser.run(SHOWN[tab])
+
+
+def settled(browser: Browser, tab: str, holds: Callable[[List[Any]], bool]) -> List[Any]:
+    """What is shown on a tab, as soon as it is as it has to be."""
+    for _ in range(600):
+        if holds(found := state(browser, tab)):
+            return found
+        time.sleep(0.1)
+    raise AssertionError(f"never as it has to be: {found!r}")
+
+
+def lines_of(pairs: List[m.Node], end: str = "\n") -> str:
+    return "".join(f"{m.to_hex(hash_)} {size}{end}" for hash_, size in pairs)
+
+
+def file(folder: Path, name: str, data: bytes = b"", length: int = 0) -> str:
+    """The path of a file with some data, or of a sparse one of a length."""
+    (folder / name).write_bytes(data)
+    if length:
+        with (folder / name).open("r+b") as it:
+            it.truncate(length)
+    return str(folder / name)
+
+
+def each_control_is_used_by_a_test(browser: Browser, folder: Path) -> None:
+    ids = browser.run("return [...document.querySelectorAll('main :is(input, select, textarea, form, button)')].map((it) => it.id).filter(Boolean)")
+    tests = "".join(Path(__file__).with_name(name).read_text() for name in ("page_test.py", "page_cases.py", "pages.py"))
+    same([it for it in ids if not it.startswith("between-") and not re.search(rf"[\"'#]{it}\b", tests)], [])
+
+
+def a_list_can_be_merged_at_once(browser: Browser, folder: Path) -> None:
+    ranges = "return [document.querySelectorAll('.range').length, document.querySelectorAll('button.merge').length]"
+    same([browser.run(ranges), text(browser, "said")], [[4, 3], "64 chunks in 4 ranges."])
+    for position in (16, 48, 32):
+        browser.click(f"#between-{position}")
+    same(text(browser, "verdict"), "The same.")
+    for count, wanted in ((1, 1), (2, 2), (3, 3), (4, 4), (5, 4), (500, 4)):
+        fill(browser, {"count": count})
+        browser.click("#draw button")
+        same(browser.run(ranges), [wanted, wanted - 1], f"{count} chunks")
+
+
+def lists_may_have_cr_lf(browser: Browser, folder: Path) -> None:
+    wanted = m.to_hex(m.root(LINES))
+    browser.click("summary")
+    for end in ("\n", "\r\n"):
+        for given in (lines_of(LINES, end), lines_of(LINES, end).rstrip(), lines_of(LINES, end) + end):
+            fill(browser, {"pairs": given})
+            # A textarea has its lines' ends as LF, so that a file brings the others.
+            browser.click("#paste button")
+            same([text(browser, "root-at-once"), error(browser)], [wanted, None])
+            browser.click("#tab-files")
+            browser.type("#pairs-of", file(folder, f"{time.monotonic_ns()}", given.encode()))
+            settled(browser, "files", lambda it: bool(it[1]) and it[1][:2] == ["12", wanted])
+            browser.click("#tab-ranges")
+
+
+def cuts_may_be_at_both_ends(browser: Browser, folder: Path) -> None:
+    browser.click("#tab-files")
+    for cuts, sizes in (("10", [10, 20]), ("0 10", [10, 20]), ("10 30", [10, 20]), ("0, 10; 30", [10, 20]), ("0", [30]), ("30", [30]), ("0 30", [30])):
+        fill(browser, {"cuts": cuts})
+        drop(browser, "thirty", bytes(range(30)))
+        found = settled(browser, "files", lambda it: it[2] == "Done.")
+        same([row[1] for row in found[0]], [str(size) for size in sizes], cuts)
+    # Other cuts are taken of the same file, once they are typed.
+    browser.run("const it = document.getElementById('cuts'); it.value = '7'; it.dispatchEvent(new Event('change'))")
+    settled(browser, "files", lambda it: [row[1] for row in it[0]] == ["7", "23"] and it[2] == "Done.")
+
+
+def files_are_cut_as_xet_does(browser: Browser, folder: Path) -> None:
+    browser.click("#tab-files")
+    datas = {"mixed": chunker.mixed(200_000), "zeros": bytes(131_073)}
+    browser.type("#chunks-of", "\n".join(file(folder, name, data) for name, data in datas.items()))
+    wanted = [[name, str(len(data)), str(len(chunker.cuts(data))), m.to_hex(chunker.file_hash(data))] for name, data in datas.items()]
+    same(settled(browser, "files", lambda it: it[2] == "Done.")[:2], [wanted, None])
+
+
+def a_part_may_end_beyond_the_file(browser: Browser, folder: Path) -> None:
+    browser.click("#tab-parts")
+    browser.type("#part-of", file(folder, "part", bytes(3000)))
+    # These bytes were asked for of a longer file.
+    same(settled(browser, "parts", lambda it: it[1] == "3000 bytes in 6 chunks")[3], "Accepted: these are bytes 0 to 99 of a file of 3000 bytes.")
+    for first, last, shown in ((2999, 5000, (2999, 2999)), (0, 10**9, (0, 2999)), (1400, 1600, (1400, 1600))):
+        fill(browser, {"from": first, "to": last})
+        choose(browser, "nothing")
+        same(text(browser, "part-verdict"), f"Accepted: these are bytes {shown[0]} to {shown[1]} of a file of 3000 bytes.")
+        choose(browser, "byte")
+        same(text(browser, "part-verdict"), "Refused: 1 chunk of the data isn’t the file’s.")
+        choose(browser, "node")
+        same(text(browser, "part-verdict"), "Refused: the proof doesn’t lead to the hash of the file.")
+
+
+def there_are_limits(browser: Browser, folder: Path) -> None:
+    many = [((k, 1, 2, 5), 1) for k in range(501)]
+    browser.click("summary")
+    for count, said in ((500, None), (501, "The page shows at most 500 chunks.")):
+        fill(browser, {"pairs": lines_of(many[:count])})
+        browser.click("#paste button")
+        same([error(browser), text(browser, "root-at-once")], [said, m.to_hex(m.root(many[:500]))])
+    browser.click("#tab-files")
+    browser.type("#pairs-of", file(folder, "long", length=256 * 2**20 + 1))
+    settled(browser, "files", lambda it: it[-1] == "The file has more than 268435456 bytes.")
+    browser.click("#tab-parts")
+    browser.type("#part-of", file(folder, "longer", length=64 * 2**20 + 1))
+    same(settled(browser, "parts", lambda it: it[-1] is not None)[-1], "The file has more than 67108864 bytes.")
+    whole = "A chunk has a whole number of bytes, and at least one."
+    table = (("1", 100_000, None), ("1", 100_001, "The page makes at most 100000 chunks of a file."), ("0", 9, whole), ("-5", 9, whole), ("", 9, whole), ("1.5", 9, whole))
+    for k, (length, size, said) in enumerate(table):
+        fill(browser, {"chunk-length": length})
+        browser.type("#part-of", file(folder, f"of-{k}", length=size))
+        found = settled(browser, "parts", lambda it: it[-1] == said and (said is not None or it[1] != ""))
+        same(found[:7] == EMPTY_PART, said is not None, f"{length} {size}")
+    for size, shown in ((1, "1 byte in 1 chunk"), (1001, "1001 bytes in 3 chunks")):
+        fill(browser, {"made-bytes": size, "chunk-length": 500})
+        browser.click("#make-file button")
+        same([text(browser, "part-file-size"), error(browser)], [shown, None])
+
+
+def choices_of(folder: Path) -> Dict[str, Dict[str, Callable[[Browser], None]]]:
+    """The choices on each tab, those with `slow` in their name first come to something when they are let go."""
+    paths = {
+        "small": file(folder, "small", SMALL), "empty": file(folder, "empty"), "slow": file(folder, "slow", bytes(3000)),
+        "too long": file(folder, "too-long", length=256 * 2**20 + 1), "pairs": file(folder, "pairs", lines_of(LINES).encode()),
+        "slow pairs": file(folder, "slow-pairs", lines_of(LINES[:5]).encode()), "no pairs": file(folder, "no-pairs", b"no pair\n"),
+    }
+
+    def picked(css: str, name: str) -> Callable[[Browser], None]:
+        def choice(browser: Browser) -> None:
+            # Chromium adds what is typed to the files that are chosen.
+            fill(browser, {css[1:]: ""})
+            browser.type(css, paths[name])
+
+        return choice
+
+    return {
+        "files": {
+            "slow": picked("#chunks-of", "slow"), "slow pairs": picked("#pairs-of", "slow pairs"), "slow drop": lambda it: drop(it, "slow-drop", b"dropped"),
+            "a file": picked("#chunks-of", "small"), "an empty file": picked("#chunks-of", "empty"), "pairs": picked("#pairs-of", "pairs"),
+            "no pairs": picked("#pairs-of", "no pairs"), "a drop": lambda it: drop(it, "dropped", SMALL), "too long": picked("#pairs-of", "too long"),
+        },
+        "parts": {
+            "slow": picked("#part-of", "slow"), "a file": picked("#part-of", "small"), "an empty file": picked("#part-of", "empty"),
+            "too long": picked("#part-of", "too long"), "made": lambda it: it.click("#make-file button"),
+        },
+    }
+
+
+#: How each choice ends alone: what tells it from the state before it.
+ENDS: Dict[str, Dict[str, Callable[[List[Any]], bool]]] = {
+    "files": {
+        "a file": lambda it: it[2] == "Done." and it[0][0][0] == "small", "an empty file": lambda it: it[2] == "Done." and it[0][0][1] == "0",
+        "pairs": lambda it: it[2] == "Done." and it[1][0] == "12" and it[0] == [], "no pairs": lambda it: "Line 1 is no pair" in (it[-1] or ""),
+        "a drop": lambda it: it[2] == "Done." and it[0][0][0] == "dropped", "too long": lambda it: "268435456" in (it[-1] or ""),
+    },
+    "parts": {
+        "a file": lambda it: it[1] == "7 bytes in 1 chunk", "an empty file": lambda it: it[1] == "0 bytes in 0 chunks",
+        "too long": lambda it: "67108864" in (it[-1] or ""), "made": lambda it: it[1] == "50000 bytes in 100 chunks",
+    },
+}
+
+
+def each_choice_ends_the_one_before(browser: Browser, folder: Path, tab: str) -> None:
+    """Each choice after each other one, and during each slow one, shows what it shows alone."""
+    url = browser.run("return location.href")
+    choices, ends = choices_of(folder)[tab], ENDS[tab]
+
+    def on_a_new_page() -> None:
+        opened(browser, url)
+        browser.click(f"#tab-{tab}")
+
+    def chosen(name: str) -> None:
+        # The page asks for other bytes if a file doesn't have these.
+        fill(browser, {"from": 0, "to": 5})
+        choices[name](browser)
+
+    alone = {}
+    for name, end in ends.items():
+        on_a_new_page()
+        chosen(name)
+        alone[name] = settled(browser, tab, end)
+    for before in choices:
+        for name in ends:
+            # A browser tells of no change if the same file is chosen again.
+            if before == name and name not in ("made", "a drop"):
+                continue
+            is_slow = before.startswith("slow")
+            if is_slow:
+                on_a_new_page()
+            chosen(before)
+            if not is_slow:
+                settled(browser, tab, lambda it: it == alone[before])
+            chosen(name)
+            settled(browser, tab, lambda it: it == alone[name])
+            browser.run("document.dispatchEvent(new Event('let-go'))")
+            if is_slow and tab == "parts":
+                wait(browser, "document.documentElement.dataset.gone === '1'")
+            same(state(browser, tab), alone[name], f"{name} after {before}")
+            if tab == "files":
+                same(browser.run("return document.documentElement.dataset.workers"), "1", f"workers for {name} after {before}")
+
+
+def choices_of_files_end_earlier_ones(browser: Browser, folder: Path) -> None:
+    each_choice_ends_the_one_before(browser, folder, "files")
+
+
+def choices_of_parts_end_earlier_ones(browser: Browser, folder: Path) -> None:
+    each_choice_ends_the_one_before(browser, folder, "parts")
+
+
+def what_is_not_read_yet_shows_nothing(browser: Browser, folder: Path) -> None:
+    browser.click("#tab-parts")
+    choices_of(folder)["parts"]["slow"](browser)
+    same(settled(browser, "parts", lambda it: it[:7] == EMPTY_PART)[-1], None)
+    browser.click("#read-part button")
+    same([error(browser), state(browser, "parts")[:7]], ["There is no file yet.", EMPTY_PART])
+    browser.run("document.dispatchEvent(new Event('let-go'))")
+    same(settled(browser, "parts", lambda it: it[1] == "3000 bytes in 6 chunks")[-1], None)
+    browser.click("#tab-files")
+    choices_of(folder)["files"]["slow"](browser)
+    same(settled(browser, "files", lambda it: it[2] == "Working.")[:2], [[], None])
+
+
+def work_can_be_cancelled(browser: Browser, folder: Path) -> None:
+    browser.click("#tab-files")
+    for name in ("slow", "slow pairs", "slow drop"):
+        choices_of(folder)["files"][name](browser)
+        settled(browser, "files", lambda it: it[2] == "Working.")
+        browser.click("#cancel")
+        same(state(browser, "files"), [[], None, "", [[], []], None], name)
+        same(browser.run("return document.documentElement.dataset.workers"), "0", name)
+    browser.run("document.dispatchEvent(new Event('let-go'))")
+    time.sleep(1)
+    same(state(browser, "files"), [[], None, "", [[], []], None])
+
+
+def a_message_stays_on_its_tab(browser: Browser, folder: Path) -> None:
+    browser.click("#tab-parts")
+    fill(browser, {"from": 10**6, "to": 10**6})
+    choose(browser, "byte")
+    browser.click("#tab-files")
+    same(error(browser), None)
+    browser.type("#pairs-of", file(folder, "no-pairs", b"no pair\n"))
+    wait(browser, "!document.getElementById('error').hidden")
+    for tab, said in (("parts", "The file has no such bytes."), ("ranges", None), ("files", "Line 1 is no pair of 64 hex digits, a space, and a size.")):
+        browser.click(f"#tab-{tab}")
+        same(error(browser), said, tab)
+    browser.click("#tab-parts")
+    drop(browser, "dropped", SMALL)
+    settled(browser, "files", lambda it: it[2] == "Done.")
+    same(error(browser), "The file has no such bytes.")
+    browser.click("#tab-files")
+    same(error(browser), None)
+
+
+def nothing_lives_that_is_not_shown(browser: Browser, folder: Path) -> None:
+    """The module's memory holds its area, a subtree for each range, and a tree if there is a file."""
+    script = """
+        const trees = document.getElementById("part-file-hash").textContent === "" ? 0 : 1;
+        return Number(document.documentElement.dataset.blocks) - 1 - document.querySelectorAll(".range").length - trees;
+    """
+    living = lambda what: same(browser.run(script), 0, what)  # noqa: E731
+    living("opened")
+    for position in (10, 16, 32, 48, 10):
+        browser.click(f"#between-{position}")
+        living(f"between {position}")
+    for button in ("#cut-again", "#cut-at-random", "#cut-again", "#draw button", "#cut-at-random", "#draw button"):
+        browser.click(button)
+        living(button)
+    browser.click("#play")
+    wait(browser, "document.querySelectorAll('#history li').length === 1")
+    living("played")
+    browser.click("summary")
+    for given in (lines_of(LINES), "", lines_of(LINES[:1]), lines_of([(LINES[0][0], 2**64 - 1), LINES[1]])):
+        fill(browser, {"pairs": given})
+        browser.click("#paste button")
+        living(f"pasted {given[:70]}")
+    browser.click("#tab-parts")
+    for name in ("a file", "made", "an empty file", "made", "too long", "made", "a file"):
+        choices_of(folder)["parts"][name](browser)
+        settled(browser, "parts", ENDS["parts"][name])
+        living(name)
+        for change in ("byte", "node", "nothing"):
+            choose(browser, change)
+            living(f"{name}, {change} changed")
+
+
+CASES: Dict[str, Callable[[Browser, Path], None]] = {
+    it.__name__.replace("_", " "): it
+    for it in (
+        each_control_is_used_by_a_test, a_list_can_be_merged_at_once, lists_may_have_cr_lf, cuts_may_be_at_both_ends, a_part_may_end_beyond_the_file, there_are_limits,
+        choices_of_files_end_earlier_ones, choices_of_parts_end_earlier_ones, what_is_not_read_yet_shows_nothing, a_message_stays_on_its_tab,
+        nothing_lives_that_is_not_shown, work_can_be_cancelled, files_are_cut_as_xet_does,
+    )
+}
+
+
+def try_cases(browser: Browser, names: List[str]) -> None:
+    """Tries some cases, each on a page of its own."""
+    with tempfile.TemporaryDirectory() as site:
+        url = probed(Path(site))
+        for name in names:
+            with tempfile.TemporaryDirectory() as folder:
+                opened(browser, url)
+                CASES[name](browser, Path(folder))
+        print(f"{browser.version()}: {len(names)} cases of choices passed", flush=True)

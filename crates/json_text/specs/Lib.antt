@@ -1,0 +1,2 @@
+pub mod JsonText
+pub mod Nesting
