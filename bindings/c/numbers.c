@@ -250,6 +250,8 @@ static void far_reader(void)
     EXPECT_STATUS(YUREWHA_ARGUMENTS, yurewha_reader_needs(&reader, deep.from, UINT64_MAX, UINT64_MAX, &begin, &end));
     EXPECT_STATUS(YUREWHA_DONE, yurewha_reader_needs(&reader, 0, UINT64_MAX, UINT64_MAX, &begin, &end));
     EXPECT(begin == 0 && end >= deep.from);
+    EXPECT_STATUS(YUREWHA_DONE, yurewha_reader_piece(&reader, deep.from, distant, &begin, &end));
+    EXPECT(begin % distant == 0 && begin <= deep.from && deep.from < end && end <= begin + distant);
     EXPECT_STATUS(YUREWHA_DONE, yurewha_reader_keep_at_most(&reader, UINT64_MAX));
     EXPECT_STATUS(YUREWHA_DONE, yurewha_reader_counted(&reader, &counted));
     EXPECT(counted == CHUNK + 128);
@@ -555,6 +557,7 @@ static const struct {
      "opened_range_bytes_of chunk, opened_range_check chunk, opened_range_check length, "
      "opened_range_read from, opened_range_read to, opened_range_read length, part_check length", deep_proof},
     {"reader_new most, reader_read from, reader_read count, reader_read piece, reader_needs from, reader_needs to, reader_needs piece, "
+     "reader_piece place, reader_piece piece, "
      "reader_keep_at_most most", far_reader},
     {"", much_kept},
     {"", many_uses},

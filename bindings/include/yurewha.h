@@ -1145,6 +1145,16 @@ YUREWHA_NODISCARD YUREWHA_NONNULL(1, 5, 6) YUREWHA_INITIALIZED(1) YUREWHA_SINCE(
 yurewha_status yurewha_reader_needs(yurewha_reader *reader, uint64_t from, uint64_t to, uint64_t piece, uint64_t *first,
                                     uint64_t *end);
 
+/* Writes which piece of the file has the place `place`, where pieces of `piece` bytes follow one another from the file's
+ * start. `begin` gets where it begins, and `end` where it ends, which for the last piece is the end of the file if its
+ * size is known. So a server can keep a proof of each piece. It allocates nothing.
+ *   DONE          they are written
+ *   ARGUMENTS     if and only if there is a reader, and `piece` is 0 or the file has no byte at the place. While its size
+ *                 isn't known, only the place 2^64 - 1 is such a one
+ *   EMPTY_HANDLE  if and only if the handle is empty */
+YUREWHA_NODISCARD YUREWHA_NONNULL(1, 4, 5) YUREWHA_INITIALIZED(1) YUREWHA_SINCE(1.1)
+yurewha_status yurewha_reader_piece(yurewha_reader *reader, uint64_t place, uint64_t piece, uint64_t *begin, uint64_t *end);
+
 /* Writes the size of the file in bytes. It is known once a part with a checked chunk was taken. It allocates nothing.
  *
  * Each file with the hash and the salt of the reader has this size, unless two messages that were hashed have the same

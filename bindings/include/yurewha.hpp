@@ -856,6 +856,11 @@ public:
     {
         return ask_interval_if<std::uint64_t>(yurewha_reader_needs, from, to, piece);
     }
+    // The piece of the file that has a place, of those of `length` bytes that follow one another from its start.
+    [[nodiscard]] std::optional<interval<std::uint64_t>> piece(std::uint64_t place, std::uint64_t length) const
+    {
+        return ask_interval_if<std::uint64_t>(yurewha_reader_piece, place, length);
+    }
     // The size of the file, once it is known.
     [[nodiscard]] std::optional<std::uint64_t> size() const { return ask_if<std::uint64_t>(yurewha_reader_size); }
     [[nodiscard]] std::uint64_t counted() const { return ask<std::uint64_t>(yurewha_reader_counted); }

@@ -376,6 +376,7 @@ static void range_proofs()
     THROWS(YUREWHA_ARGUMENTS, reader.take(std::move(whole)));
     MUST(whole.file_size() == data.size());
     MUST(reader.needs(place.first, place.end, 10) == yu::interval<std::uint64_t>{place.first, place.first + 10});
+    MUST(reader.piece(25, 10) == yu::interval<std::uint64_t>{20, 30} && !reader.piece(25, 0));
     reader.take(std::move(part));
     THROWS(YUREWHA_EMPTY_HANDLE, part.file_size());
     MUST(reader.size() == data.size() && reader.counted() == 54 + 2 * 128 && !reader.needs(place.first, place.end, 10));

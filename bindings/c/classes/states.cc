@@ -347,6 +347,7 @@ template <> const std::vector<row<yu::reader>> &rows()
         READER(read, read_by(it, 60)),
         READER(read, read_by(it, 0)),
         READER(needs, it.needs(0, 1000, 1)),
+        READER(piece, it.piece(1, 2)),
         READER(size, it.size()),
         READER(counted, it.counted()),
         ROW(reader, keep_at_most, CALL(yu::reader, it.keep_at_most(0); return "";)),

@@ -571,6 +571,12 @@ static uint64_t call_reader_needs(const struct argument *a)
         (uint64_t)a[3].number, (uint64_t *)a[4].data, (uint64_t *)a[5].data);
 }
 
+static uint64_t call_reader_piece(const struct argument *a)
+{
+    return yurewha_reader_piece((yurewha_reader *)a[0].data, (uint64_t)a[1].number, (uint64_t)a[2].number,
+        (uint64_t *)a[3].data, (uint64_t *)a[4].data);
+}
+
 static uint64_t call_reader_size(const struct argument *a)
 {
     return yurewha_reader_size((yurewha_reader *)a[0].data, (uint64_t *)a[1].data);
@@ -807,6 +813,8 @@ const struct call calls[] = {
         {GIVEN, NUMBER}, {OUT, NUMBER}, {OUT, NUMBER}}},
     {"reader_needs", call_reader_needs, STATUS, ASKS_NONE, false, 6, {{READ, READER}, {GIVEN, NUMBER}, {GIVEN, NUMBER},
         {GIVEN, NUMBER}, {OUT, NUMBER}, {OUT, NUMBER}}},
+    {"reader_piece", call_reader_piece, STATUS, ASKS_NONE, false, 5, {{READ, READER}, {GIVEN, NUMBER}, {GIVEN, NUMBER},
+        {OUT, NUMBER}, {OUT, NUMBER}}},
     {"reader_size", call_reader_size, STATUS, ASKS_NONE, false, 2, {{READ, READER}, {OUT, NUMBER}}},
     {"reader_counted", call_reader_counted, STATUS, ASKS_NONE, false, 2, {{READ, READER}, {OUT, NUMBER}}},
     {"reader_keep_at_most", call_reader_keep_at_most, STATUS, ASKS_NONE, false, 2, {{CHANGED, READER},

@@ -196,6 +196,7 @@ REFUSED = [
     (y.InvalidArguments, lambda: opened().read(0, MAX + 1, b"")),
     (y.InvalidArguments, lambda: verified(cache_size=-1)),
     (y.InvalidArguments, lambda: verified(chunk_limit=MAX + 1)),
+    (y.InvalidArguments, lambda: verified(piece=-1)),
     (y.InvalidArguments, lambda: verified(salt=bytes(31))),
     (y.InvalidArguments, lambda: y.VerifiedFile(bytes(31), print, print)),
     (y.InvalidText, lambda: y.VerifiedFile(63 * "0", print, print)),

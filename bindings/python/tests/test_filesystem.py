@@ -94,10 +94,10 @@ def test_names_with_capitals():
 
 
 def test_each_file_has_the_limits_of_the_system():
-    file = made(cache_size=11, chunk_limit=12, read_ahead=13, proof_limit=14)._made("a.bin")
-    assert (file._cache_size, file._chunk_limit, file._ahead._most, file._proof_limit) == (11, 12, 13, 14)
+    file = made(cache_size=11, chunk_limit=12, read_ahead=13, proof_limit=14, piece=15)._made("a.bin")
+    assert (file._cache_size, file._chunk_limit, file._ahead._most, file._proof_limit, file._piece) == (11, 12, 13, 14, 15)
     file, alone = made()._made("a.bin"), y.VerifiedFile(HASHES["a.bin"], fetch, prove)
-    for name in ("_cache_size", "_chunk_limit", "_ahead", "_proof_limit"):
+    for name in ("_cache_size", "_chunk_limit", "_ahead", "_proof_limit", "_piece"):
         assert getattr(file, name) == getattr(alone, name)
     for call in (lambda files: files.cat_file("a.bin", 5, 9), lambda files: files.open("a.bin", block_size=1).read(3)):
         files = made(prove=lambda path, start, stop: FILES[path].tree.proof(0, 100), chunk_limit=500)

@@ -1,5 +1,6 @@
 """Files that are read in parts: places, what is fetched, what is refused, and readers over them."""
 
+import asyncio
 import contextlib
 import copy
 import ctypes
@@ -281,6 +282,38 @@ DISHONEST = {
         "this isn't the data of the range", lambda s: (
             lambda a, b: (s.data * 2)[a:b], lambda a, b: y.RangeProof.from_flat([], [(s.tree.root, b + 200)]))),
 }
+
+
+@pytest.mark.parametrize("options", [{}, {"cache_size": 0}, {"cache_size": 300}], ids=str)
+@pytest.mark.parametrize("piece", [1, 7, 100, 1000, 2999, 1 << 62, 2**64 - 1])
+def test_proofs_that_were_made_of_each_piece_answer_each_read(piece, options):
+    """Each request is for a whole piece, also of a read across two, before the size is known, and beyond the end of the file."""
+    source = drawn(31, 60)
+    end = len(source.data)
+    kept = {start: source.tree.proof_of_bytes(start, min(start + piece, 2**64 - 1)) for start in range(0, end, piece)}
+    asked = []
+
+    def prove(start, stop):
+        asked.append((start, stop))
+        return kept[start]
+
+    def file_of_pieces():
+        return y.VerifiedFile(source.tree.file_hash(), source.fetch, prove, piece=piece, chunk_limit=100, **options)
+
+    rng, file = random.Random(piece), file_of_pieces()
+    places = [rng.randrange(end + 50) for _ in range(40)]
+    reads = [(0, 0), (5, 6), (piece - 1, piece + 1), (end - 3, end + 5), (end, end + 9), (2**64 - 1, 2**64 - 1)]
+    for start, stop in [*reads, *((place, min(place + rng.choice((1, 30, 900)), 2**64 - 1)) for place in places)]:
+        stop = min(stop, 2**64 - 1)
+        for reader in (file, file_of_pieces()):  # the second doesn't know the size
+            assert reader.read_at(start, stop) == source.data[start:stop], (start, stop)
+    assert file.size == end
+    before = len(asked)
+    assert file_of_pieces().read() == source.data
+    assert options or len(set(asked[before:])) == len(asked) - before, "what is kept is not asked for again"
+    later = y.AsyncVerifiedFile(source.tree.file_hash(), source.fetch, prove, piece=piece, chunk_limit=100, **options)
+    assert asyncio.run(later.read_at(0, end)) == source.data
+    assert all(start % piece == 0 and stop in (min(start + piece, 2**64 - 1), end) for start, stop in asked)
 
 
 @pytest.mark.parametrize("name", DISHONEST)

@@ -47,8 +47,9 @@ class AsyncVerifiedFile(CheckedParts):
         cache_size: SupportsIndex = 1 << 22,
         chunk_limit: SupportsIndex = 1 << 20,
         proof_limit: SupportsIndex = PROOF_LIMIT,
+        piece: SupportsIndex = 0,
     ) -> None:
-        self._begin(file_hash, fetch, prove, salt, cache_size, chunk_limit, proof_limit)
+        self._begin(file_hash, fetch, prove, salt, cache_size, chunk_limit, proof_limit, piece)
 
     def __init_subclass__(cls) -> None:
         raise TypeError("AsyncVerifiedFile can't be subclassed")

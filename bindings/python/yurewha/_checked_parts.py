@@ -123,6 +123,8 @@ class CheckedParts:
     _cache_size: int
     _chunk_limit: int
     _proof_limit: int
+    # How many bytes each request is for, or 0 if each is for what is missing.
+    _piece: int
     # The path of the file in a file system, for errors.
     _path: Optional[str]
     _reader: Reader
@@ -140,6 +142,7 @@ class CheckedParts:
         cache_size: SupportsIndex,
         chunk_limit: SupportsIndex,
         proof_limit: SupportsIndex,
+        piece: SupportsIndex,
     ) -> None:
         for call, what in ((fetch, "fetch"), (prove, "prove")):
             if not callable(call):
@@ -149,7 +152,7 @@ class CheckedParts:
         self._salt = bytes(32) if salt is None else checked_32(salt, "salt")
         self._fetch, self._prove = fetch, prove
         self._cache_size, self._chunk_limit = checked_u64(cache_size, "cache_size"), checked_u64(chunk_limit, "chunk_limit")
-        self._proof_limit = checked_u64(proof_limit, "proof_limit")
+        self._proof_limit, self._piece = checked_u64(proof_limit, "proof_limit"), checked_u64(piece, "piece")
         self._reader, self._rescued = Reader(self._raw, self._salt, self._cache_size), None
         # The default hash is the hash of the empty file.
         self._size = None if any(self._raw) else 0
@@ -195,7 +198,7 @@ class CheckedParts:
             while position < stop:
                 data, end = found or self._kept(position, stop - position)
                 found, had = None, had + len(data)
-                part = memoryview(data) if data or end <= position else (yield from self._asked(position, end, answers))
+                part = memoryview(data) if data or end <= position else (yield from self._missing(position, end, answers))
                 if not part:
                     break
                 parts.append(part)
@@ -208,6 +211,14 @@ class CheckedParts:
         if rescued is not None and position > start + had and rescued.read(start, 1)[0]:
             self._rescued = None
         return parts
+
+    def _missing(self, start: int, stop: int, answers: List[Answer]) -> Steps[memoryview]:
+        """Returns bytes that aren't kept, from `start` on, and at most up to `stop`. Asks for these, or for the piece with the first one."""
+        if not self._piece:
+            return (yield from self._asked(start, stop, answers))
+        begin, end = self._reader.piece(start, self._piece)
+        whole = yield from self._asked(begin, end, answers)
+        return whole[start - begin:stop - begin]
 
     def _asked(self, start: int, stop: int, answers: List[Answer]) -> Steps[memoryview]:
         """Asks for the bytes from `start` up to `stop`, and returns those that the file has, once they are checked.

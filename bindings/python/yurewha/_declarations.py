@@ -175,6 +175,8 @@ DECLARATIONS: Dict[str, Declaration] = {
         ("yurewha_reader *", "uint64_t", "uint8_t *", "size_t", "uint64_t", "size_t *", "uint64_t *")),
     "yurewha_reader_needs": (
         "yurewha_status", ("yurewha_reader *", "uint64_t", "uint64_t", "uint64_t", "uint64_t *", "uint64_t *")),
+    "yurewha_reader_piece": (
+        "yurewha_status", ("yurewha_reader *", "uint64_t", "uint64_t", "uint64_t *", "uint64_t *")),
     "yurewha_reader_size": ("yurewha_status", ("yurewha_reader *", "uint64_t *")),
     "yurewha_reader_counted": ("yurewha_status", ("yurewha_reader *", "uint64_t *")),
     "yurewha_reader_keep_at_most": ("yurewha_status", ("yurewha_reader *", "uint64_t")),

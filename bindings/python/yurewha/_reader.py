@@ -76,6 +76,15 @@ class Reader(Handle):
             raise error_of(status)
         return end.value
 
+    def piece(self, place: int, length: int) -> Tuple[int, int]:
+        """Returns where the piece with a place begins and ends, of the pieces of so many bytes that follow one another in the file."""
+        begin, end = ctypes.c_uint64(), ctypes.c_uint64()
+        with self._locked():
+            status = short.yurewha_reader_piece(self._handle, place, length, begin, end)
+        if status:
+            raise error_of(status)
+        return begin.value, end.value
+
     def size(self) -> Optional[int]:
         """Returns the size of the file in bytes, or None until a chunk was checked."""
         out = ctypes.c_uint64()

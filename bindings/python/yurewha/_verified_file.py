@@ -49,6 +49,9 @@ class VerifiedFile(CheckedParts, _Raw):  # type: ignore[misc]
       in up to nine threads. So `fetch` and `prove` must then be callable by several threads at once.
     - If a read fails, what it had checked before is kept, whatever the `cache_size`, until a read that begins there goes beyond it. So
       reading again fetches the rest alone, also if an answer was cut off in the middle.
+    - With `piece`, each request is for one of the pieces of so many bytes that follow one another from the file's start, the last of
+      which may end after the file. So `prove` may answer with proofs that were made of each piece and kept, as files on a server.
+      A read of a byte fetches the piece that has it, so `cache_size` should have room for a few.
     - A proof is refused if its chunks go more than `chunk_limit` bytes beyond what is asked for. So a server can't make a reader
       fetch a whole file for one byte. So is one that has more than `proof_limit` bytes in the form of `RangeProof.to_bytes`. That is 16
       MiB, as for `RangeProof.from_json`, which is enough for pieces of 16 MiB unless the chunks have less than 40 bytes.
@@ -73,13 +76,14 @@ class VerifiedFile(CheckedParts, _Raw):  # type: ignore[misc]
         cache_size: SupportsIndex = 1 << 22,
         chunk_limit: SupportsIndex = 1 << 20,
         proof_limit: SupportsIndex = PROOF_LIMIT,
+        piece: SupportsIndex = 0,
         read_ahead: SupportsIndex = 0,
         name: Optional[str] = None,
     ) -> None:
         if name is not None and not isinstance(name, str):
             raise TypeError(but_got("name must be a str", type(name).__name__))
         ahead = checked_u64(read_ahead, "read_ahead")
-        self._begin(file_hash, fetch, prove, salt, cache_size, chunk_limit, proof_limit)
+        self._begin(file_hash, fetch, prove, salt, cache_size, chunk_limit, proof_limit, piece)
         self._name = self._hash.hex() if name is None else name
         self._guarded = Guarded()
         self._guarded._guard()

@@ -54,8 +54,8 @@ class VerifiedFileSystem(AbstractFileSystem):  # type: ignore[misc]
 
     `hashes` has the file hash of each path: a `Hash`, its 32 bytes, or its hex text. `fetch(path, start, stop)` and
     `prove(path, start, stop)` return bytes and a proof of a file, as for a `VerifiedFile`. Several threads may call them at once.
-    `salt`, `cache_size`, `chunk_limit`, `proof_limit` and `read_ahead` are those of each `VerifiedFile`. `threads` is how many ranges
-    `cat_ranges` reads at once.
+    `salt`, `cache_size`, `chunk_limit`, `proof_limit`, `piece` and `read_ahead` are those of each `VerifiedFile`. `threads` is how many
+    ranges `cat_ranges` reads at once.
 
     What is wrong raises `ProofMismatch`, whose `path` says which file it is. A path without a hash raises `FileNotFoundError`, and
     writing raises `io.UnsupportedOperation`. Each call makes a new file system, which equals no other one, because fsspec would compare
@@ -85,6 +85,7 @@ class VerifiedFileSystem(AbstractFileSystem):  # type: ignore[misc]
         cache_size: SupportsIndex = 1 << 22,
         chunk_limit: SupportsIndex = 1 << 20,
         proof_limit: SupportsIndex = PROOF_LIMIT,
+        piece: SupportsIndex = 0,
         read_ahead: SupportsIndex = 0,
         threads: SupportsIndex = 8,
         **options: object,
@@ -95,7 +96,8 @@ class VerifiedFileSystem(AbstractFileSystem):  # type: ignore[misc]
                 raise TypeError(but_got(f"{what} must be a callable", type(call).__name__))
         self._hashes = {self._name(path): hash_of(hash_, f"hash of {path}") for path, hash_ in hashes.items()}
         self._fetch, self._prove, self._salt = fetch, prove, salt
-        self._cache_size, self._chunk_limit, self._proof_limit, self._read_ahead = cache_size, chunk_limit, proof_limit, read_ahead
+        self._cache_size, self._chunk_limit, self._proof_limit = cache_size, chunk_limit, proof_limit
+        self._piece, self._read_ahead = piece, read_ahead
         self._threads = checked_threads(threads)
         self._files: Dict[str, VerifiedFile] = {}
         self._own_token = uuid.uuid4().hex
@@ -119,8 +121,8 @@ class VerifiedFileSystem(AbstractFileSystem):  # type: ignore[misc]
         fetch, prove = self._fetch, self._prove
         file = VerifiedFile(
             hash_, lambda start, stop: fetch(name, start, stop), lambda start, stop: prove(name, start, stop), self._salt,
-            cache_size=self._cache_size, chunk_limit=self._chunk_limit, proof_limit=self._proof_limit, read_ahead=self._read_ahead,
-            name=name)
+            cache_size=self._cache_size, chunk_limit=self._chunk_limit, proof_limit=self._proof_limit, piece=self._piece,
+            read_ahead=self._read_ahead, name=name)
         file._path = name
         return file
 

@@ -570,6 +570,13 @@ extern "C" {
         first: *mut u64,
         end: *mut u64,
     ) -> yurewha_status;
+    pub fn yurewha_reader_piece(
+        reader: *mut yurewha_reader,
+        place: u64,
+        piece: u64,
+        begin: *mut u64,
+        end: *mut u64,
+    ) -> yurewha_status;
     pub fn yurewha_reader_size(reader: *mut yurewha_reader, size: *mut u64) -> yurewha_status;
     pub fn yurewha_reader_counted(reader: *mut yurewha_reader, counted: *mut u64) -> yurewha_status;
     pub fn yurewha_reader_keep_at_most(reader: *mut yurewha_reader, most: u64) -> yurewha_status;

@@ -23,6 +23,7 @@ const data = Buffer.concat(chunks);
 const list = y.Chunks.from(chunksOf(y, FILE));
 const tree = y.HashTree.fromChunks(list);
 const PIECE = 1 << 22;
+const CACHE = 1 << 22;
 const blob = new Blob([data]);
 
 /** Where the chunks are that have the bytes from one place up to another. */
@@ -211,6 +212,23 @@ test("a proof may go beyond what was asked for by chunkLimit bytes on each side"
     const read = (end) => y.VerifiedBlob.open(long.fileHash(), (start, stop) => new Uint8Array(stop - start), () => long.proof(0, end));
     assert.equal((await read(2)).size, 2 + (1 << 20));
     await assert.rejects(read(3), errors.ProofMismatch);
+});
+
+test("proofs that were made of each piece answer each read", async () => {
+    const end = data.length;
+    for (const piece of [70_000, 1 << 20, 2 ** 40, Number.MAX_SAFE_INTEGER, 2n ** 64n - 1n]) {
+        const length = Number(piece);
+        const [asked, prove] = counted((start) => proofOf(start, Math.min(start + length, end)));
+        const verified = await open({ piece, cacheSize: piece === 70_000 ? 0 : CACHE }, bytesOf, prove);
+        assert.equal(verified.size, end);
+        for (const [from, to] of [[0, 0], [5, 6], [69_999, 70_001], [(1 << 20) - 1, (1 << 20) + 1], [end - 3, end], [0, end], [end, end]]) {
+            const read = await verified.slice(from, to).bytes();
+            assert.ok(Buffer.from(read).equals(data.subarray(from, to)), `${piece} ${from} ${to}`);
+            assert.equal(read.buffer.byteLength, to - from, "the memory is the reader's own");
+        }
+        const whole = (start) => Math.min(start + length, Number.MAX_SAFE_INTEGER);
+        assert.ok(asked.every(([start, stop]) => start % length === 0 && [whole(start), end].includes(stop)), `${piece}: ${asked}`);
+    }
 });
 
 test("a piece ahead that fails is told to the next read, and to nobody else", async () => {
@@ -474,7 +492,7 @@ test("arguments have their types, and results too", async () => {
         await assert.rejects(y.VerifiedBlob.open(hash, bytesOf, () => value), TypeError);
         if (value !== undefined) await assert.rejects(open({ type: value }), { name: "TypeError", message: /^a type must be a string, got / });
     }
-    for (const name of ["cacheSize", "chunkLimit"]) {
+    for (const name of ["cacheSize", "chunkLimit", "piece"]) {
         for (const value of [1.5, "1", null]) await assert.rejects(open({ [name]: value }), TypeError);
         await assert.rejects(open({ [name]: -1 }), RangeError);
     }

@@ -1138,6 +1138,10 @@ export interface VerifiedBlobOptions {
     /** How many bytes a proof's chunks may go beyond those that are asked for, on each side; by default 1 MiB. So a server can't make a
      * reader fetch a whole file for one byte. */
     readonly chunkLimit?: U64;
+
+    /** With this, each request is for one of the pieces of so many bytes that follow one another from the file's start, the last of which
+     * may end after the file. So `prove` may answer with proofs that were made of each piece and kept, as files on a server. */
+    readonly piece?: U64;
 }
 
 export interface VerifiedBlobConstructor {

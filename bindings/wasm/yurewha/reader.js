@@ -92,6 +92,15 @@ export function makeReader(library, overProof) {
             });
         }
 
+        /** Where the piece with a place begins and ends, of the pieces of so many bytes that follow one another in the file. */
+        piece(place, length) {
+            const { pointer } = this.#handle;
+            return library.over([8, 8], (begin, end) => {
+                library.check(library.call("yurewha_reader_piece", pointer, BigInt(place), length, begin, end));
+                return [begin, end].map((it) => library.u64(it));
+            });
+        }
+
         /** The part of the bytes from one place up to another, by a proof, which may go so many bytes beyond them on each side. */
         open(proof, from, to, beyond) {
             return overProof(proof, [...this.#given, 8, 8], (lists, hash, salt, ...places) => {

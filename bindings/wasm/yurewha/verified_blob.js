@@ -27,18 +27,20 @@ class RemoteFile {
     #fetch;
     #prove;
     #chunkLimit;
+    #piece;
 
-    /** `prove` returns a proof, and `fetch` data or a response. */
-    constructor(reader, fetch, prove, chunkLimit) {
+    /** `prove` returns a proof, and `fetch` data or a response. Each request is for `piece` bytes, or for what is missing if that is 0. */
+    constructor(reader, fetch, prove, chunkLimit, piece) {
         this.#reader = reader;
         this.#fetch = fetch;
         this.#prove = prove;
         this.#chunkLimit = chunkLimit;
+        this.#piece = piece;
     }
 
     /** The size of the file, which its first chunk shows. */
     async size(signal) {
-        await this.#fetched(0, 1, signal);
+        await this.#missing(0, 1, signal);
         const { size } = this.#reader;
         // A chunk that had no room in the module's memory shows nothing.
         if (size === null) throw outOfMemory();
@@ -48,7 +50,15 @@ class RemoteFile {
     /** Bytes from a place on, in memory of their own: at least one, and none from `end` on, which isn't after the file's end. */
     async bytes(start, end, signal) {
         const kept = this.#reader.read(start, Math.min(end - start, PIECE));
-        return kept.data.length > 0 ? kept.data : this.#fetched(start, kept.end, signal);
+        return kept.data.length > 0 ? kept.data : this.#missing(start, kept.end, signal);
+    }
+
+    /** Bytes that aren't kept, from a place on, and at most up to `end`. Asks for these, or for the piece with the first one. */
+    async #missing(start, end, signal) {
+        if (this.#piece === 0n) return this.#fetched(start, end, signal);
+        const [begin, stop] = this.#reader.piece(start, this.#piece);
+        const first = Number(begin);
+        return (await this.#fetched(first, Math.min(Number(stop), Number.MAX_SAFE_INTEGER), signal)).slice(start - first, end - first);
     }
 
     /** The bytes from one place up to another, once they are fetched and checked. Their chunks are kept. */
@@ -93,15 +103,16 @@ export function makeVerifiedBlob({ rawOf }, { RangeProof }, { Reader }) {
             show(this);
         }
 
-        static async open(fileHash, source, prove, { salt, type = "", cacheSize = CACHE_SIZE, chunkLimit = CHUNK_LIMIT } = {}) {
+        static async open(fileHash, source, prove, { salt, type = "", cacheSize = CACHE_SIZE, chunkLimit = CHUNK_LIMIT, piece = 0 } = {}) {
             const hash = rawOf(fileHash, "a file hash");
             const isAddress = typeof source === "string" || source instanceof URL;
             const fetch = isAddress ? byRange(source) : callable(source, "a source that is no address");
             const [most, limit] = [u64(cacheSize, "a cache size"), u64(chunkLimit, "a chunk limit")];
+            const length = u64(piece, "a piece");
             const proving = proofOf(callable(prove, "prove"));
             const key = salt === undefined ? new Uint8Array(HASH_LENGTH) : thirtyTwo(salt, "a salt");
             const kind = mediaType(type);
-            const file = new RemoteFile(new Reader(hash, key, most), fetch, proving, limit);
+            const file = new RemoteFile(new Reader(hash, key, most), fetch, proving, limit, length);
             // The default hash is that of the empty file, of which no proof shows anything.
             const isEmpty = hash.every((byte) => byte === 0);
             const size = isEmpty ? 0 : await file.size(new AbortController().signal);

@@ -10,3 +10,4 @@ pub mod Runs
 pub mod Sides
 pub mod Strict
 pub mod Text
+pub mod Written

@@ -7,7 +7,7 @@ use Rattle.std.proofs.lemmas.List.Elements.{All-contains, All-contains_itself, A
 use Rattle.std.proofs.lemmas.List.Sums.{sum_by-append, sum_by-cons}
 use Rattle.range_proof.specs.RangeProof.{file_size_of}
 use Rattle.verified_reader.specs.Kept.{AreUsed, Chunk, IsUsed, Keeps, KeepsAll, size_of_kept}
-use Rattle.verified_reader.specs.Reader.{Check, IsChecked, IsCheckedBy, IsPartOf, IsShownBy, IsSizeOfFile, Part, Reader, checks_of}
+use Rattle.verified_reader.specs.Reader.{Check, IsChecked, IsCheckedBy, IsCheckOf, IsPartOf, IsShownBy, IsSizeOfFile, Part, Reader, checks_of}
 use Rattle.verified_reader.proofs.Entries.{of_map}
 use Rattle.verified_reader.proofs.Pieces.{of_size}
 use Rattle.verified_reader.proofs.Reading.{used_member, used_members}
@@ -56,16 +56,12 @@ own_checks part checked = all_from (IsChecked (checks_of part) part.hash part.sa
 
 -- a chunk that is kept was kept before, or is the new one
 kept_member : (most : ℕ) (old new : List Chunk) (chunk : Chunk) → Keeps most old chunk new → (c : Chunk) → Contains new c → Contains old c ⊎ (chunk ≡ c)
-kept_member most old new chunk (Keeps.kept some small fits free drops) c among =
+kept_member most old new chunk (Keeps.kept may drops) c among =
     let xs = old ++ chunk ∷ [] in
     let dropped = subst (λ l. Contains l c) drops.new_is among in
     Contains-push_cases old chunk c (subst (λ l. Contains l c) (take-append-drop drops.dropped xs) (Contains-append_right (take drops.dropped xs) (drop drops.dropped xs) c dropped))
-kept_member most old new chunk (Keeps.used (inl u) there) c among = inl ((used_member old new chunk.begin u c).0 among)
-kept_member most old new chunk (Keeps.used (inr same) there) c among = inl (subst (λ l. Contains l c) same among)
-kept_member most old new chunk (Keeps.empty none) c among = inl among
-kept_member most old new chunk (Keeps.large past) c among = inl among
-kept_member most old new chunk (Keeps.far past) c among = inl among
-kept_member most old new chunk (Keeps.taken not) c among = inl among
+kept_member most old new chunk (Keeps.stay not (inl u)) c among = inl ((used_member old new chunk.begin u c).0 among)
+kept_member most old new chunk (Keeps.stay not (inr same)) c among = inl (subst (λ l. Contains l c) same among)
 
 pub kept_members : (most : ℕ) (old chunks new : List Chunk) → KeepsAll most old chunks new → (c : Chunk) → Contains new c → Contains old c ⊎ Contains chunks c
 kept_members most old chunks new KeepsAll.none c among = inl among
@@ -111,13 +107,9 @@ used_shown checks old new from to same used shown =
     (record { kept = used_checked (IsChecked checks old.hash old.salt) old.kept from to new.kept used shown.kept; size = shown.size })
 
 kept_size : (most : ℕ) (old new : List Chunk) (chunk : Chunk) → size_of_kept old ≤ most → Keeps most old chunk new → size_of_kept new ≤ most
-kept_size most old new chunk within (Keeps.kept some small fits free drops) = drops.fits
-kept_size most old new chunk within (Keeps.used (inl u) there) = subst (λ (n : ℕ). n ≤ most) (sym (used_size old new chunk.begin u)) within
-kept_size most old new chunk within (Keeps.used (inr same) there) = subst (λ l. size_of_kept l ≤ most) (sym same) within
-kept_size most old new chunk within (Keeps.empty none) = within
-kept_size most old new chunk within (Keeps.large past) = within
-kept_size most old new chunk within (Keeps.far past) = within
-kept_size most old new chunk within (Keeps.taken not) = within
+kept_size most old new chunk within (Keeps.kept may drops) = drops.fits
+kept_size most old new chunk within (Keeps.stay not (inl u)) = subst (λ (n : ℕ). n ≤ most) (sym (used_size old new chunk.begin u)) within
+kept_size most old new chunk within (Keeps.stay not (inr same)) = subst (λ l. size_of_kept l ≤ most) (sym same) within
 
 pub kept_sizes : (most : ℕ) (old chunks new : List Chunk) → size_of_kept old ≤ most → KeepsAll most old chunks new → size_of_kept new ≤ most
 kept_sizes most old chunks new within KeepsAll.none = within
@@ -140,12 +132,12 @@ shown_too checks more reader are shown = record {
   size = sizes_too checks more reader.hash reader.salt reader.size are shown.size;
 }
 
--- a reader after its part was taken is shown by the part's checks, too, and by one more check of its proof
+-- a reader after its part was taken is shown by the part's checks, too, and by one more check of the part
 pub taken_shown : (checks : List Check) (old : Reader) (part : Part) (kept : List Chunk) (size : Option ℕ) → IsShownBy checks old → IsPartOf old part →
     All (IsCheckedBy part.proof part.hash part.salt) part.checked → ((c : Chunk) → Contains kept c → Contains old.kept c ⊎ Contains part.checked c) →
     (0 < part.right → (chunk : Chunk) × IsCheckedBy part.proof part.hash part.salt chunk) →
     (0 < part.right → size ≡ Some (file_size_of part.proof)) → (part.right ≡ 0 → size ≡ old.size) →
-    (check : Check) × (check.proof ≡ part.proof) × IsShownBy (check ∷ checks_of part ++ checks) (record old { kept = kept; size = size })
+    (check : Check) × IsCheckOf part check × IsShownBy (check ∷ checks_of part ++ checks) (record old { kept = kept; size = size })
 taken_shown checks old part kept size shown is by members one some none = elim (cases_lt 0 part.right) [
   | inl right ↦
       let (chunk, checked) = one right in
@@ -153,7 +145,7 @@ taken_shown checks old part kept size shown is by members one some none = elim (
       let all = check ∷ checks_of part ++ checks in
       let size_is = of_size all part.hash part.salt chunk part.proof checked (Contains-get_or all 0 check (omega arith)) in (
         check,
-        refl,
+        record { proof = refl; right = λ _. (chunk, checked, refl) },
         with_size check (subst (λ (s : Option ℕ). IfSome s (IsSizeOfFile all old.hash old.salt)) (sym (some right))
             (subst (λ (s : List ℕ). IsSizeOfFile all old.hash s (file_size_of part.proof)) is.salt
             (subst (λ (h : List ℕ). IsSizeOfFile all h part.salt (file_size_of part.proof)) is.hash size_is))),
@@ -161,7 +153,7 @@ taken_shown checks old part kept size shown is by members one some none = elim (
   | inr empty ↦
       let check : Check = record { proof = part.proof; bytes = [] } in (
         check,
-        refl,
+        record { proof = refl; right = λ some. absurd (omega (arith, some, empty)) },
         with_size check (subst (λ (s : Option ℕ). IfSome s (IsSizeOfFile (check ∷ checks_of part ++ checks) old.hash old.salt)) (sym (none (omega (arith, empty))))
             (sizes_too checks (check ∷ checks_of part ++ checks) old.hash old.salt old.size (right check) shown.size)),
       )

@@ -69,16 +69,18 @@ pub record DropsOldest (most : ℕ) (old new : List Chunk) : Type 0 where
   pub fits : size_of_kept new ≤ most
   pub no_more : (fewer : ℕ) → fewer < dropped → most < size_of_kept (drop fewer old)
 
--- a chunk is kept, and all count at most `most`. If a chunk with its first byte is kept, that one is used. A chunk that is
--- empty, that counts more than `most`, that ends past 64 bits, or that has a byte that is kept, isn't kept
+-- a chunk may be kept beside others: it has a byte, counts at most `most`, ends within 64 bits, and has no byte that is kept
+pub record MayBeKept (most : ℕ) (old : List Chunk) (chunk : Chunk) : Type 0 where
+  pub some : 0 < length chunk.bytes
+  pub counts : length chunk.bytes + 128 ≤ most
+  pub ends : end_of chunk < 2 ^ 64
+  pub free : IsFree old chunk.begin (end_of chunk)
+
+-- what is kept after one more chunk: if it may be kept, it is the last one, and of all those that were used last stay, as many as fit.
+-- If not, all stay; the one that has its first byte is used, if there is one, unless an allocation for that fails
 pub data Keeps (most : ℕ) (old : List Chunk) (chunk : Chunk) : List Chunk → Type 0 where
-  kept : {new : List Chunk} → 0 < length chunk.bytes → length chunk.bytes + 128 ≤ most → end_of chunk < 2 ^ 64 →
-      IsFree old chunk.begin (end_of chunk) → DropsOldest most (old ++ chunk ∷ []) new → Keeps most old chunk new
-  used : {new : List Chunk} → IsUsed old chunk.begin new ⊎ (new ≡ old) → IsKept old chunk.begin → Keeps most old chunk new
-  empty : length chunk.bytes ≡ 0 → Keeps most old chunk old
-  large : most < length chunk.bytes + 128 → Keeps most old chunk old
-  far : 2 ^ 64 ≤ end_of chunk → Keeps most old chunk old
-  taken : ¬ (IsFree old chunk.begin (end_of chunk)) → Keeps most old chunk old
+  kept : {new : List Chunk} → MayBeKept most old chunk → DropsOldest most (old ++ chunk ∷ []) new → Keeps most old chunk new
+  stay : {new : List Chunk} → ¬ (MayBeKept most old chunk) → IsUsed old chunk.begin new ⊎ (new ≡ old) → Keeps most old chunk new
 
 -- some chunks are kept, one after another. If an allocation fails, a chunk isn't
 pub data KeepsAll (most : ℕ) (old : List Chunk) : List Chunk → List Chunk → Type 0 where

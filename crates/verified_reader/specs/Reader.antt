@@ -1,5 +1,5 @@
 -- What was checked of a file, and what that says of the bytes and the size that are handed out.
-use Rattle.std.specs.Prelude.{◌≡◌, ◌⊎◌, ℕ, ◌+◌, ◌-◌, ◌<◌, ◌≤◌, List, [], ◌∷◌, ◌++◌, Option, None, Some, IfSome, All, Contains, length, map, min, take, slice_get, slice_range, ⊤}
+use Rattle.std.specs.Prelude.{◌≡◌, ◌⊎◌, ℕ, ◌+◌, ◌-◌, ◌*◌, ◌^◌, ◌<◌, ◌≤◌, List, [], ◌∷◌, ◌++◌, Option, None, Some, IfSome, All, Contains, length, map, min, take, slice_get, slice_range, ⊤}
 use Rattle.commitment.specs.Commitment.{chunk_node, chunk_nodes, HashedForFile, Collision}
 use Rattle.xet_roots.specs.Roots.{IsFileHash}
 use Rattle.range_proof.specs.RangeProof.{Proof, Shows, begin_of, file_size_of}
@@ -61,6 +61,18 @@ abbrev pub within_file : Option ℕ → ℕ → ℕ
 within_file None place = place
 within_file (Some size) place = min place size
 
+-- the end of the file if its size is known, or the last place that a file can end at
+abbrev pub last_place : Option ℕ → ℕ
+last_place size = within_file size (2 ^ 64 - 1)
+
+-- pieces of so many bytes follow one another from the start of a file, the last one up to its end: this one has a place
+pub record IsPieceAt (size : Option ℕ) (piece place begin end : ℕ) : Type 0 where
+  pub number : ℕ
+  pub begin_is : begin ≡ number * piece
+  pub end_is : end ≡ min (last_place size) (begin + piece)
+  pub begins : begin ≤ place
+  pub ends : place < end
+
 -- all that a reader keeps was checked in some checks
 pub record IsShownBy (checks : List Check) (reader : Reader) : Type 0 where
   pub kept : All (IsChecked checks reader.hash reader.salt) reader.kept
@@ -80,6 +92,12 @@ pub record Part : Type 0 where
 -- the checks of a part's chunks
 abbrev pub checks_of : Part → List Check
 checks_of part = map (λ chunk. record { proof = part.proof; bytes = chunk.bytes }) part.checked
+
+-- one more check of a part: of its proof and, if one of its chunks was right, of the data of a chunk that was checked, since only
+-- copied chunks stand in the part
+pub record IsCheckOf (part : Part) (check : Check) : Type 0 where
+  pub proof : check.proof ≡ part.proof
+  pub right : 0 < part.right → (chunk : Chunk) × IsCheckedBy part.proof part.hash part.salt chunk × (check.bytes ≡ chunk.bytes)
 
 -- a part is of a reader's file: it has the same file hash and salt, and its proof no other size than the one that is known
 pub record IsPartOf (reader : Reader) (part : Part) : Type 0 where

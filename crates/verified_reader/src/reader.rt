@@ -3,7 +3,7 @@
 ghost use Rattle.std.specs.Prelude.{◌≡◌, ◌⊎◌, ◌+◌, ◌<◌, ◌≤◌, ◌↔◌, ◌∷◌, ◌++◌, List, [], None, Some, Option, length, take, drop, All, IfNone, IfOk, IfSome, IsOk, max, min, IsTrue};
 ghost use Rattle.range_proof.specs.RangeProof.{file_size_of};
 ghost use Rattle.verified_reader.specs.Kept.{AllKept, AreKeptAt, AreUsed, Chunk, DropsOldest, IsFirstMissing, IsKept, KeepsAll, size_of_kept};
-ghost use Rattle.verified_reader.specs.Reader.{AreOfFile, Check, HasLearned, IsCheckedBy, IsPartOf, IsShownBy, IsSizeOfFile, checks_of, within_file};
+ghost use Rattle.verified_reader.specs.Reader.{AreOfFile, Check, HasLearned, IsCheckedBy, IsCheckOf, IsPartOf, IsPieceAt, IsShownBy, IsSizeOfFile, checks_of, last_place, within_file};
 
 use crate::kept_chunks::KeptChunks;
 use crate::part::WantedPart;
@@ -128,6 +128,22 @@ impl<A: Allocator + Clone> VerifiedReader<A> {
         Some((first, min(end, last)))
     }
 
+    /// Returns the piece of the file that has a place, where pieces of `piece` bytes follow one another from the file's start:
+    /// where it begins, and where it ends, which is the end of the file for the last one, if the size is known. So proofs that
+    /// were made of each piece can be asked for. Returns `None` if `piece` is 0, or if no file of the known size, or of any size
+    /// below 2^64, has a byte at the place. It allocates nothing.
+    pub fn piece_at(&self, place: u64, piece: u64) -> Option<(u64, u64)>
+        ensures some { IfSome result (λ found. IsPieceAt self.now.size piece place found.0 found.1) }
+        ensures none { IfNone result ((piece ≡ 0) ⊎ (last_place self.now.size ≤ place)) }
+    {
+        let last = self.within_file(u64::MAX);
+        if piece == 0 || last <= place {
+            return None;
+        }
+        let begin = place - place % piece;
+        Some((begin, min(begin.saturating_add(piece), last)))
+    }
+
     // Returns a place, or the end of the file if its size is known and it comes first.
     fn within_file(&self, place: u64) -> u64
         ensures { result ≡ within_file self.now.size place }
@@ -150,8 +166,8 @@ impl<A: Allocator + Clone> VerifiedReader<A> {
         ensures kept { IsTrue result → KeepsAll self.old.most self.old.kept part.checked self.new.kept }
         ensures size { IsTrue result → HasLearned self.old part self.new }
         ensures same { self.new ≡ record self.old { kept = self.new.kept; size = self.new.size } }
-        ensures stays { (checks : List Check) → IsShownBy checks self.old →
-            (check : Check) × (check.proof ≡ part.proof) × IsShownBy (check ∷ checks_of part ++ checks) self.new }
+        ensures stays { IsTrue result → (checks : List Check) → IsShownBy checks self.old →
+            (check : Check) × IsCheckOf part check × IsShownBy (check ∷ checks_of part ++ checks) self.new }
     {
         if !self.is_part(&part) {
             return false;

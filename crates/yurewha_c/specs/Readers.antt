@@ -2,7 +2,7 @@
 use Rattle.std.specs.Prelude.{◌≡◌, ◌⊎◌, ℕ, ◌+◌, ◌-◌, ◌^◌, ◌<◌, ◌≤◌, All, Option, List, [], ◌∷◌, ◌++◌, length, drop, max, min, take}
 use Rattle.range_proof.specs.RangeProof.{Proof, Shows, file_size_of}
 use Rattle.verified_reader.specs.Kept.{AllKept, AreKeptAt, AreUsed, DropsOldest, IsFirstMissing, IsKept, KeepsAll}
-use Rattle.verified_reader.specs.Reader.{AreAllRight, AreCopied, AreOfFile, Check, HasLearned, HoldsPlaces, IsCheckedBy, IsFarFrom, IsShownBy, Part, Reader, checks_of, within_file}
+use Rattle.verified_reader.specs.Reader.{AreAllRight, AreCopied, AreOfFile, Check, HasLearned, HoldsPlaces, IsCheckedBy, IsCheckOf, IsFarFrom, IsShownBy, Part, Reader, checks_of, within_file}
 
 -- a place that is some bytes after another one. Places are below 2 ^ 64
 abbrev pub place_after : ℕ → ℕ → ℕ
@@ -43,7 +43,7 @@ pub record Takes (old : Reader) (part : Part) (new : Reader) : Type 0 where
   pub size : HasLearned old part new
   pub same : new ≡ record old { kept = new.kept; size = new.size }
   pub stays : (checks : List Check) → IsShownBy checks old →
-      (check : Check) × (check.proof ≡ part.proof) × IsShownBy (check ∷ checks_of part ++ checks) new
+      (check : Check) × IsCheckOf part check × IsShownBy (check ∷ checks_of part ++ checks) new
 
 -- a part is made of a proof that shows a file hash under a salt, for the bytes from one place to another
 pub record IsOpened (part : Part) (hash salt : List ℕ) (from to beyond : ℕ) : Type 0 where

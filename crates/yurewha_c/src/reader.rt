@@ -2,7 +2,7 @@
 
 ghost use Rattle.std.specs.Prelude.{◌≡◌, ◌≢◌, ◌⊎◌, ◌↔◌, ◌≤◌, List, None, Some, [], IfSome, IsSomeAnd};
 ghost use Rattle.verified_reader.specs.Kept.{AllKept, size_of_kept};
-ghost use Rattle.verified_reader.specs.Reader.{Check, IsPartOf, IsShownBy, IsSizeOfFile, within_file};
+ghost use Rattle.verified_reader.specs.Reader.{Check, IsPartOf, IsPieceAt, IsShownBy, IsSizeOfFile, last_place, within_file};
 ghost use Rattle.yurewha_c.specs.Handles.{BothHold, Reads};
 ghost use Rattle.yurewha_c.specs.Readers.{IsLimited, IsWanted, ReadsFrom, Takes};
 
@@ -135,6 +135,45 @@ pub extern "C" fn yurewha_reader_needs(
     };
     *first = begin;
     *end = after;
+    DONE
+}
+
+/// Writes which piece of the file has the place `place`, where pieces of `piece` bytes follow one another from the file's start.
+/// `begin` gets where it begins, and `end` where it ends, which for the last piece is the end of the file if its size is known. So
+/// a server can keep a proof of each piece. It allocates nothing.
+///
+/// - `DONE`: they are written.
+/// - `ARGUMENTS`: if and only if there is a reader, and `piece` is 0 or the file has no byte at the place. While its size isn't
+///   known, only the place 2^64 - 1 is such a one.
+/// - `EMPTY_HANDLE`: if and only if the handle is empty.
+///
+/// Since 1.1.
+#[unsafe(no_mangle)]
+pub extern "C" fn yurewha_reader_piece(
+    alloc: Global,
+    reader: &mut ReaderHandle,
+    place: u64,
+    piece: u64,
+    begin: &mut u64,
+    end: &mut u64,
+) -> u32
+    ensures piece { result ≡ DONE → IsSomeAnd reader.old.value (λ kept. IsPieceAt kept.size piece place begin.new end.new) }
+    ensures arguments { IfSome reader.old.value (λ kept. (result ≡ ARGUMENTS) ↔ ((piece ≡ 0) ⊎ (last_place kept.size ≤ place))) }
+    ensures empty { (result ≡ EMPTY_HANDLE) ↔ (reader.old.value ≡ None) }
+    ensures statuses { (result ≡ DONE) ⊎ ((result ≡ ARGUMENTS) ⊎ (result ≡ EMPTY_HANDLE)) }
+    ensures kept { reader.new.value ≡ reader.old.value }
+    ensures unchanged { result ≢ DONE → (begin.new ≡ begin.old) × (end.new ≡ end.old) }
+{
+    let Some(kept) = reader.take(alloc) else {
+        return EMPTY_HANDLE;
+    };
+    let found = kept.piece_at(place, piece);
+    reader.put(kept);
+    let Some((first, last)) = found else {
+        return ARGUMENTS;
+    };
+    *begin = first;
+    *end = last;
     DONE
 }
 

@@ -131,6 +131,27 @@ impl VerifiedReader {
         })
     }
 
+    /// Returns the piece of the file that has a place, where pieces of `piece` bytes follow one another from the file's start,
+    /// so that proofs that were made of each piece can be asked for. The last one ends with the file, if its size is known.
+    /// Returns `None` if `piece` is 0, or if the file has no byte at the place.
+    ///
+    /// ```
+    /// use yurewha::merklehash::MerkleHash;
+    /// use yurewha::own::VerifiedReader;
+    ///
+    /// let reader = VerifiedReader::new(&MerkleHash::random_from_seed(1), 0)?;
+    /// assert_eq!(reader.piece_at(25, 10), Some(20..30));
+    /// assert_eq!(reader.piece_at(25, 0), None);
+    /// # Ok::<(), yurewha::error::CoreError>(())
+    /// ```
+    #[must_use]
+    pub fn piece_at(&self, place: u64, piece: u64) -> Option<Range<u64>> {
+        // SAFETY: a handle, and two numbers to write to.
+        told_if_there(|Range { start, end }| unsafe {
+            ffi::yurewha_reader_piece(&mut *self.handle.lock(), place, piece, start, end)
+        })
+    }
+
     /// Returns the size of the file in bytes, or `None` until a part with a checked chunk was taken.
     #[must_use]
     pub fn size(&self) -> Option<u64> {

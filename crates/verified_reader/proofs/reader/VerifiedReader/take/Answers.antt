@@ -1,20 +1,9 @@
 use Rattle.std.proofs.Common.{arith, ◌≡◌, ◌∷◌, [], ◌++◌, List, refl, sym, ap, subst, ◌∙◌}
 use Rattle.std.specs.Bool.{IsTrue}
-use Rattle.std.proofs.lemmas.List.Elements.{Contains-append_right}
 use Rattle.verified_reader.specs.Kept.{Chunk, KeepsAll}
-use Rattle.verified_reader.specs.Reader.{Check, IsPartOf, IsShownBy, Part, Reader, checks_of}
-use Rattle.verified_reader.proofs.Checks.{kept_members, kept_sizes, shown_too, taken_shown}
+use Rattle.verified_reader.specs.Reader.{Check, IsCheckOf, IsPartOf, IsShownBy, Part, Reader, checks_of}
+use Rattle.verified_reader.proofs.Checks.{kept_members, kept_sizes, taken_shown}
 use Rattle.verified_reader.proofs.reader.VerifiedReader.take.Goals as goal
-
-pub returns-then-not-is_part-clause-stays : goal.returns-then-not-is_part-clause-stays
-returns-then-not-is_part-clause-stays g c = λ checks shown.
-    let part = c.args.part in
-    let check : Check = record { proof = part.proof; bytes = [] } in (
-      check,
-      refl,
-      shown_too checks (check ∷ checks_of part ++ checks) c.args.self.now (λ other among.
-          Contains-append_right (check ∷ []) (checks_of part ++ checks) other (Contains-append_right (checks_of part) checks other among)) shown,
-    )
 
 pub invariant_of-self : goal.invariant_of-self
 invariant_of-self g c =
@@ -34,7 +23,7 @@ invariant_of-self g c =
     )
 
 pub returns-clause-stays : goal.returns-clause-stays
-returns-clause-stays g c = λ checks shown.
+returns-clause-stays g c = λ _ checks shown.
     let now = c.args.self.now in
     let part = c.args.part in
     let new = c.keep_all.new.self in
