@@ -20,7 +20,7 @@ use Rattle.json.proofs.Printed.Decimals.{IsNumber-decimal}
 use Rattle.json.proofs.Printed.Tokens.{tokens-print}
 use Rattle.json.proofs.Printed.Trees.{value-json_tokens, ArePrintable-json_tokens}
 use Rattle.json.proofs.Printed.Utf8.{are_ascii, IsUtf8-are_ascii, IsUtf8-boolean}
-use Rattle.serde_json.specs.Data.{Data, boolean, number, array, Items}
+use Rattle.serde_json.specs.Data.{Data, number, array, Items}
 use Rattle.serde_json.specs.Read.{of_json, of_items, max_depth, read}
 use Rattle.serde_json.specs.View.{items_of}
 use Rattle.serde_json.specs.Written.{outline, items_outline, comma_if, compact_text, items_text}

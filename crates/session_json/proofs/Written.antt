@@ -1,6 +1,6 @@
 -- What is written of a session reads as the same session.
-use Rattle.std.proofs.Common.{arith, ◌≡◌, ◌≢◌, ℕ, suc, zero, ◌^◌, ◌<◌, ◌≤◌, ◌-◌, Bool, true, false, List, [], ◌∷◌, ◌++◌, get_or, length, map, take, codes, Some, refl, sym, ap, subst, ◌∙◌}
-use Rattle.std.specs.Prelude.{All, IfSome, IsUtf8, slice_get, slice_index_or}
+use Rattle.std.proofs.Common.{arith, ◌≡◌, ℕ, suc, zero, ◌^◌, ◌<◌, ◌-◌, true, List, [], ◌∷◌, ◌++◌, get_or, length, map, take, codes, refl, sym, subst}
+use Rattle.std.specs.Prelude.{All, IfSome, IsUtf8, slice_get}
 use Rattle.std.specs.List.{AllByRecursion as Each, AllZip}
 use Rattle.std.specs.declared.alloc.Global.{Global}
 use Rattle.std.specs.Str.{str_to_ascii_lowercase}
@@ -13,20 +13,17 @@ use Rattle.serde_json.specs.Data.{Data, array, member, no_members, object}
 use Rattle.serde_json.specs.View.{items_of}
 use Rattle.serde_json.specs.Written.{compact_text}
 use Rattle.xet_hash.specs.Hash.{hex_text, IsHash, IsHexText}
-use Rattle.xet_roots.specs.Groups.{Node}
-use Rattle.xet_roots.specs.Roots.{total_size}
-use Rattle.level_nodes.specs.FlatLevels.{count_of, count_sum, flat_nodes}
 use Rattle.level_nodes.specs.NodeJson.{number_json}
-use Rattle.subtree_levels.specs.Levels.{levels_size, node_count}
+use Rattle.subtree_levels.specs.Levels.{levels_size}
 use Rattle.subtree_levels.specs.Subtree.{Subtree}
 use Rattle.xet_merkle.specs.SubtreeJson.{subtree_json}
 use Rattle.xet_merkle.proofs.Json.OneMeaning.{Reads-object}
 use Rattle.xet_merkle.proofs.Levels.Flat.{levels_size-flat}
-use Rattle.upload_session.specs.Hashes.{Hash, Knows}
+use Rattle.upload_session.specs.Hashes.{Hash}
 use Rattle.upload_session.specs.Session.{Parts, PlacedRun, AreApart, CanFollow, EndBefore}
 use Rattle.upload_session.specs.declared.kept_hashes.SeenHashes.{SeenHashes}
 use Rattle.subtree_sessions.specs.Subtrees.{subtrees}
-use Rattle.session_json.specs.Reading.{size_of, CanFollowEach, IsStrictText, Reads, ReadsHash, ReadsRun, SaysSession}
+use Rattle.session_json.specs.Reading.{size_of, CanFollowEach, IsStrictText, ReadsHash, ReadsRun, SaysSession}
 use Rattle.session_json.specs.SessionJson.{hash_json, run_json, session_json, IsSound, IsSoundRun, IsTextOf}
 use Rattle.session_json.proofs.ReadBack.{array_back, ascii_then, count_sum-levels, distinct, items_back, number_back, strict_text, subtree_back, AreReadAs, IsReadAs, IsReadBack}
 

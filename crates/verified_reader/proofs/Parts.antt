@@ -7,7 +7,7 @@ use Rattle.std.proofs.lemmas.List.Sums.{sum_by_push}
 use Rattle.std.proofs.lemmas.Option.{get_or_from_slice_get, slice_get-get_or, slice_get_within}
 use Rattle.xet_roots.specs.Groups.{Node}
 use Rattle.xet_roots.specs.Roots.{total_size}
-use Rattle.commitment.specs.Commitment.{chunk_node, chunk_nodes}
+use Rattle.commitment.specs.Commitment.{chunk_node}
 use Rattle.range_proof.specs.RangeProof.{Proof, begin_of, offset_of}
 use Rattle.range_proof.specs.Reading.{AreChunksOf, IsRead, bytes_of_chunks}
 use Rattle.range_proof.proofs.ReadingOf.{IsReadSoFar, IsReadSoFar-more, bytes_of_chunks-push, none_if_other, none_if_short}

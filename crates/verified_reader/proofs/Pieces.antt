@@ -2,10 +2,9 @@
 use Rattle.std.proofs.Common.{◌≡◌, ℕ, suc, ◌+◌, ◌-◌, ◌<◌, ◌≤◌, List, [], ◌∷◌, ◌++◌, length, take, drop, get_or, sym, ap, subst, ◌∙◌, inl, inr, arith, append_assoc, append-nil, length-append}
 use Rattle.std.specs.Prelude.{All, Contains, slice_index}
 use Rattle.std.proofs.Math.Seq.{take-add}
-use Rattle.std.proofs.lemmas.Bool.{cases_lt}
-use Rattle.std.proofs.lemmas.List.{drop-drop, drop_all, drop_at, drop_more, take_all, take_at, drop-take, length-drop, length-take-le, take-take}
+use Rattle.std.proofs.lemmas.List.{drop-drop, drop_at, drop_more, take_at, drop-take, length-drop, length-take-le, take-take}
 use Rattle.std.proofs.lemmas.List.Concat.{flat_map-append}
-use Rattle.std.proofs.lemmas.List.Elements.{All-contains, All-head, All-tail}
+use Rattle.std.proofs.lemmas.List.Elements.{All-contains}
 use Rattle.range_proof.specs.RangeProof.{Proof, begin_of, file_size_of}
 use Rattle.range_proof.specs.Reading.{bytes_of_chunks}
 use Rattle.range_proof.specs.Soundness.{HasChunksAt}

@@ -1,5 +1,5 @@
 -- What a part keeps true.
-use Rattle.std.specs.Prelude.{◌≡◌, ℕ, ◌<◌, ◌≤◌, List, All, length}
+use Rattle.std.specs.Prelude.{ℕ, ◌<◌, ◌≤◌, List, All, length}
 use Rattle.range_proof.specs.RangeProof.{Proof, Shows, begin_of}
 use Rattle.verified_reader.specs.Kept.{Chunk}
 use Rattle.verified_reader.specs.Reader.{IsCheckedBy}

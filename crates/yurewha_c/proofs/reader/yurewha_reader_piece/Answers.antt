@@ -15,7 +15,10 @@ returns-clause-arguments c =
     let P = λ (kept : Reader). (0 ≡ ARGUMENTS) ↔ ((c.args.piece ≡ 0) ⊎ (last_place kept.size ≤ c.args.place)) in
     let it = c.in-Some-found.ensures.some in
     subst (λ (owned : Option Reader). IfSome owned P) c.in-Some.ensures.value
-    (subst P c.deref.ensures ((λ never. let clash : ⊥ = cc in absurd clash), (λ why. elim why [
-      | inl none ↦ absurd (omega (arith, none, it.end_is, it.begins, it.ends))
-      | inr past ↦ absurd (omega (arith, past, it.end_is, it.ends))
-    ])))
+    (subst P c.deref.ensures (
+      (λ never. let clash : ⊥ = cc in absurd clash),
+      (λ why. elim why [
+        | inl none ↦ absurd (omega (arith, none, it.end_is, it.begins, it.ends))
+        | inr past ↦ absurd (omega (arith, past, it.end_is, it.ends))
+      ]),
+    ))

@@ -1,4 +1,4 @@
-use Rattle.std.proofs.Common.{arith, ◌≡◌, ◌<◌, ℕ, drop, length, ap, subst}
+use Rattle.std.proofs.Common.{arith, ◌≡◌, drop, length, ap, subst}
 use Rattle.std.proofs.lemmas.List.{length-drop}
 use Rattle.range_proof.specs.RangeProof.{HasHashes, IsWellFormed}
 use Rattle.verified_reader.specs.Reader.{Part}

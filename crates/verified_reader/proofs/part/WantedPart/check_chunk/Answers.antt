@@ -1,9 +1,6 @@
-use Rattle.std.proofs.Common.{arith, ◌≡◌, ◌+◌, ◌-◌, ◌<◌, ℕ, List, length, map, take, refl, sym, ap, subst, ◌∙◌, inl, inr}
-use Rattle.std.specs.Prelude.{Some, slice_get}
-use Rattle.commitment.specs.Commitment.{chunk_node}
-use Rattle.range_proof.specs.RangeProof.{Proof}
+use Rattle.std.proofs.Common.{arith, ◌≡◌, ◌-◌, length, take, refl, subst, inl, inr}
 use Rattle.verified_reader.specs.Kept.{Chunk}
-use Rattle.verified_reader.specs.Reader.{BeginsWith, IsCheckedBy, Part}
+use Rattle.verified_reader.specs.Reader.{BeginsWith, Part}
 use Rattle.verified_reader.proofs.InOrder.{at_none}
 use Rattle.verified_reader.proofs.Parts.{no_chunk, other_chunk, too_short}
 use Rattle.verified_reader.proofs.part.WantedPart.check_chunk.Goals as goal

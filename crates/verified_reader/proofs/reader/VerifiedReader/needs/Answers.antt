@@ -1,4 +1,4 @@
-use Rattle.std.proofs.Common.{arith, ◌≡◌, ◌+◌, ℕ, max, min, subst, ◌∙◌}
+use Rattle.std.proofs.Common.{arith, ◌≡◌, ℕ, max, min, subst, ◌∙◌}
 use Rattle.verified_reader.specs.Kept.{AllKept, IsFirstMissing}
 use Rattle.verified_reader.specs.Reader.{Reader, within_file}
 use Rattle.verified_reader.proofs.InOrder.{at_none}

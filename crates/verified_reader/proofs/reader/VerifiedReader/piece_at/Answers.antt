@@ -1,4 +1,4 @@
-use Rattle.std.proofs.Common.{arith, ◌≡◌, ◌+◌, ◌-◌, ◌*◌, ◌/◌, ◌%◌, ◌<◌, ℕ, min, mod-lt, ◌∙◌}
+use Rattle.std.proofs.Common.{arith, ◌≡◌, ◌+◌, ◌*◌, ◌/◌, ◌%◌, ◌<◌, min, mod-lt, ◌∙◌}
 use Rattle.std.proofs.Math.Nat.{mod-add-div'}
 use Rattle.verified_reader.proofs.Reading.{least_is}
 use Rattle.verified_reader.proofs.reader.VerifiedReader.piece_at.Goals as goal

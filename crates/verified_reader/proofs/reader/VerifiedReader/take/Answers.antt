@@ -1,7 +1,7 @@
-use Rattle.std.proofs.Common.{arith, ◌≡◌, ◌∷◌, [], ◌++◌, List, refl, sym, ap, subst, ◌∙◌}
+use Rattle.std.proofs.Common.{arith, ◌∷◌, ◌++◌, List, sym, ap, subst, ◌∙◌}
 use Rattle.std.specs.Bool.{IsTrue}
 use Rattle.verified_reader.specs.Kept.{Chunk, KeepsAll}
-use Rattle.verified_reader.specs.Reader.{Check, IsCheckOf, IsPartOf, IsShownBy, Part, Reader, checks_of}
+use Rattle.verified_reader.specs.Reader.{IsPartOf, IsShownBy, Part, Reader, checks_of}
 use Rattle.verified_reader.proofs.Checks.{kept_members, kept_sizes, taken_shown}
 use Rattle.verified_reader.proofs.reader.VerifiedReader.take.Goals as goal
 
