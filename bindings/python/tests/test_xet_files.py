@@ -52,6 +52,8 @@ MESSAGES = {
     "a million": model.mixed(10**6),
     "three million": mixed(3 * 10**6),
 }
+# A chunk that begins in one piece of a file and ends with the next, in which there is no cut.
+MESSAGES["a MiB and five bytes"] = MESSAGES["three million"][:MIB + 5]
 EACH = pytest.mark.parametrize("name", MESSAGES)
 
 
@@ -231,6 +233,8 @@ def test_what_is_written_during_an_update_is_not_seen(monkeypatch):
     assert data != OFTEN * 3000 and hasher.file_hash() == expected
     data[:] = OFTEN * 3000
     assert y.Chunker().next_boundary(data) == 8193 and data != OFTEN * 3000
+    data[:] = OFTEN * 3000
+    assert y.FileHasher(data).file_hash() == expected and data != OFTEN * 3000
 
 
 @pytest.mark.skipif(counts is None, reason="nothing counts the library's memory")
