@@ -157,7 +157,29 @@ func TestAFileHasTheHashOfTheModel(t *testing.T) {
 	}
 }
 
+// Whoever writes goes on after as many bytes as Write says.
+func TestAWriteThatFailsTakesNothing(t *testing.T) {
+	hasher := must(NewFileHasher())
+	hasher.Close()
+	count, err := hasher.Write(mixed)
+	expect(t, count, 0)
+	expectError(t, err, ErrEmptyHandle)
+}
+
 // ---- Sum
+
+// A reader that returns nothing, and no error, before each piece.
+type hesitant struct {
+	io.Reader
+	hesitates bool
+}
+
+func (h *hesitant) Read(buffer []byte) (int, error) {
+	if h.hesitates = !h.hesitates; h.hesitates {
+		return 0, nil
+	}
+	return h.Reader.Read(buffer)
+}
 
 func TestSumReadsToTheEnd(t *testing.T) {
 	long := bytes.Repeat(mixed, 3)
@@ -165,6 +187,7 @@ func TestSumReadsToTheEnd(t *testing.T) {
 		expect(t, must(Sum(bytes.NewReader(file.data))).String(), file.hash)
 		expect(t, must(Sum(iotest.HalfReader(bytes.NewReader(file.data)))).String(), file.hash)
 		expect(t, must(Sum(iotest.DataErrReader(bytes.NewReader(file.data)))).String(), file.hash)
+		expect(t, must(Sum(&hesitant{Reader: bytes.NewReader(file.data)})).String(), file.hash)
 	}
 	expect(t, must(Sum(iotest.OneByteReader(bytes.NewReader(mixed)))).String(), must(Sum(bytes.NewReader(mixed))).String())
 	expect(t, must(Sum(iotest.DataErrReader(bytes.NewReader(long)))), must(FileHash(chunksOf(long, endsOf(t, long, []int{len(long)})))))
@@ -335,6 +358,15 @@ func TestAFileThatHasItsLengthAgainHasNoSum(t *testing.T) {
 	defer short.Close()
 	expectChanged(t, path, second(sumWhole(path, &longAgain{short})))
 	expect(t, must(os.Stat(path)).Size(), int64(len(mixed)))
+}
+
+// Whatever has the name of an open file at the end, the file has the hash.
+func TestAFileThatIsReplacedIsTheOldOne(t *testing.T) {
+	path, other := writtenFile(t, mixed), writtenFile(t, nil)
+	file := &changing{must(os.Open(path)), 1, func(path string) error { return os.Rename(other, path) }}
+	defer file.Close()
+	expect(t, must(sumWhole(path, file)), must(Sum(bytes.NewReader(mixed))))
+	expect(t, must(os.Stat(path)).Size(), int64(0))
 }
 
 // A file that has its length again when nothing more comes.

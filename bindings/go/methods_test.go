@@ -609,51 +609,61 @@ func TestNothingLivesThatNothingRefersTo(t *testing.T) {
 func TestObjectsThatNobodyClosesAreCollected(t *testing.T) {
 	settle(t)
 	defer debug.SetGCPercent(debug.SetGCPercent(-1))
-	list, most, made := uncut(3000), int64(0), int64(0)
-	for i := 0; i < 2000; i++ {
-		session := must(NewSession())
-		before := libraryBytes()
-		must(session.Put(0, list))
-		if grown := libraryBytes() - before; grown > 0 {
-			made += grown
+	list := uncut(3000)
+	for name, make := range map[string]func(){
+		"sessions, which grow": func() { must(must(NewSession()).Put(0, list)) },
+		"trees, which do not":  func() { must(NewHashTree(list)) },
+	} {
+		most, made := int64(0), int64(0)
+		for i := 0; i < 2000; i++ {
+			before := libraryBytes()
+			make()
+			if grown := libraryBytes() - before; grown > 0 {
+				made += grown
+			}
+			if bytes := libraryBytes(); bytes > most {
+				most = bytes
+			}
 		}
-		if bytes := libraryBytes(); bytes > most {
-			most = bytes
+		if made < 8*leastGrowth || most > 4*leastGrowth {
+			t.Errorf("the library had up to %d bytes for %s, of %d bytes, of which none is left", most, name, made)
 		}
-	}
-	if made < 8*leastGrowth || most > 4*leastGrowth {
-		t.Errorf("the library had up to %d bytes for sessions of %d bytes, of which none is left", most, made)
+		settle(t)
 	}
 }
 
-// What is in use doesn't make this package call the garbage collector again and again.
+// What is in use doesn't make this package call the garbage collector again and again. Nor does it as long as Go has more itself.
 func TestTheGarbageCollectorIsCalledSeldom(t *testing.T) {
-	settle(t)
 	collections := func() uint32 {
 		var stats runtime.MemStats
 		runtime.ReadMemStats(&stats)
 		return stats.NumForcedGC
 	}
-	before, list, kept := collections(), uncut(3000), []*Session{}
-	for i := 0; i < 600; i++ {
-		session := must(NewSession())
-		must(session.Put(0, list))
-		kept = append(kept, session)
-	}
-	for _, session := range kept {
-		expect(t, must(session.NumChunks()), uint64(len(list)))
-	}
-	if found := collections() - before; found > 4 || libraryBytes() < 2*leastGrowth {
-		t.Errorf("%d collections, for %d bytes that are in use", found, libraryBytes())
-	}
-	for _, session := range kept {
-		session.Close()
+	for bytes, most := range map[int]uint32{0: 4, 1 << 29: 0} {
+		settle(t)
+		own := make([]byte, bytes)
+		before, list, kept := collections(), uncut(3000), []*Session{}
+		for i := 0; i < 600; i++ {
+			session := must(NewSession())
+			must(session.Put(0, list))
+			kept = append(kept, session)
+		}
+		for _, session := range kept {
+			expect(t, must(session.NumChunks()), uint64(len(list)))
+		}
+		if found := collections() - before; found > most || libraryBytes() < 2*leastGrowth {
+			t.Errorf("%d collections, for %d bytes that are in use beside %d of Go", found, libraryBytes(), bytes)
+		}
+		for _, session := range kept {
+			session.Close()
+		}
+		runtime.KeepAlive(own)
 	}
 }
 
 // ---- Two things at once
 
-// Each call takes a turn at its objects.
+// Each call takes one turn at its objects, so that no other call comes in the middle of it.
 func TestEachMethodTakesATurn(t *testing.T) {
 	eachMethod(t, func(t *testing.T, kind kind, name string, call func(it, other any) (any, error)) {
 		if kind.turn == nil {
@@ -662,8 +672,12 @@ func TestEachMethodTakesATurn(t *testing.T) {
 		it, other := kind.makes[1](), kind.makes[1]()
 		before, otherBefore := kind.turn(it).taken, kind.turn(other).taken
 		_, _ = call(it, other)
-		if kind.turn(it).taken == before {
-			t.Errorf("%s takes no turn", name)
+		wanted := 1
+		if name == "MergeSubtrees" {
+			wanted = 2 // one is for a copy, since the object is two of the ranges
+		}
+		if turns := kind.turn(it).taken - before; turns != wanted {
+			t.Errorf("%s takes %d turns", name, turns)
 		}
 		if takesTwo[name] != (kind.turn(other).taken > otherBefore) {
 			t.Errorf("%s takes a turn at its argument: %v", name, !takesTwo[name])

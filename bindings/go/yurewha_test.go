@@ -299,6 +299,33 @@ func TestWhatDoesNotFitIsAskedForTwice(t *testing.T) {
 	expect(t, len(text) > 4096 && json.Valid(text), true)
 }
 
+// Calls that write into room are told how much there is: what is longer by one than the first room is whole, and so is what just fits.
+func TestRoomIsAsGreatAsItIsSaidToBe(t *testing.T) {
+	for more := 0; more < 3; more++ {
+		list := uncut(uint64(1023 + more))
+		tree := must(NewHashTree(list))
+		expect(t, fmt.Sprint(must(must(tree.Proof(0, len(list))).Nodes())), fmt.Sprint(list))
+		tree.Close()
+		for name, make := range map[string]func(list []Chunk) (any, error){
+			"subtree": func(list []Chunk) (any, error) { return NewSubtree(false, list, false) },
+			"session": func(list []Chunk) (any, error) {
+				session := must(NewSessionWithoutHashes())
+				return session, second(session.Put(0, list))
+			},
+			"proof": func(list []Chunk) (any, error) { return must(NewHashTree(list)).Proof(0, len(list)) },
+		} {
+			text := func(list []Chunk) string { return string(must(json.Marshal(must(make(list))))) }
+			list := uncut(45)
+			for i := 0; len(text(list)) < 4095+more; i = (i + 1) % len(list) {
+				list[i].Size = 10*list[i].Size + 1 // which has one digit more, unless it was 0
+			}
+			if found := text(list); len(found) != 4095+more || !json.Valid([]byte(found)) {
+				t.Errorf("the JSON of a %s has %d bytes, and not %d: %s", name, len(found), 4095+more, found)
+			}
+		}
+	}
+}
+
 func TestGoroutinesShareObjects(t *testing.T) {
 	list := chunks("a chunk", "another", "and a third")
 	open, file := must(NewSubtree(false, list, false)), must(NewSubtree(true, list, true))

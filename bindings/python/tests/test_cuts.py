@@ -75,6 +75,14 @@ def test_a_chunk_comes_before_the_next_is_read():
     assert list(chunks) == []
 
 
+@pytest.mark.parametrize("cuts", [None, [], [2], [3], given_as_soon_as_seen([2]), given_as_soon_as_seen([3])])
+def test_a_stream_is_not_read_after_its_end(cuts):
+    """It may give more then, as a terminal does, and a file that grows."""
+    stream, left = Stream(b""), [b"abc", b"", b"more", b""]
+    stream.read = lambda size: left.pop(0)
+    assert sum(size for _, size in y.hash_cuts(stream, cuts)) == 3 and left == [b"more", b""]
+
+
 def test_what_came_before_an_error_is_right():
     class Broken(Exception):
         pass

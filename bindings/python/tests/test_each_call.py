@@ -362,6 +362,7 @@ def test_an_unpickled_or_copied_object_is_the_same(row, count):
         again += [copy.copy(one), copy.deepcopy(one)]
     for other in again:
         assert after(call, other, KINDS[kind](2)) == expected
+    assert told(one) == told(KINDS[kind](count))  # what changes the others leaves it as it was
 
 
 #: Calls on a freed object that look at no handle: they return something, or raise another error.

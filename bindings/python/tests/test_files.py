@@ -205,6 +205,20 @@ def test_a_thread_whose_place_is_taken_ends():
     assert len(crew._free_places) == 1
 
 
+def test_work_is_waited_for_whose_thread_was_not_the_last_to_begin():
+    """The thread that was started last ends while another one still works."""
+    begun, end, before = threading.Event(), threading.Event(), _thread._count()
+    crew = _in_threads._Crew(lambda piece, stopped: (begun.set(), end.wait(20)) if piece == 1 else piece, 2)
+    first = crew.handed([1])
+    assert begun.wait(20) and _in_threads.waited(crew.handed([2])) == ([2], None)
+    deadline = time.monotonic() + 20
+    while _thread._count() > before + 1 and time.monotonic() < deadline:
+        time.sleep(0.001)
+    assert not first.is_lost()
+    end.set()
+    assert _in_threads.waited(first) == ([(None, True)], None)
+
+
 def test_progress_is_told_in_the_thread_of_the_caller(written):
     seen = set()
     path = written(bytes(9 * MIB))

@@ -10,7 +10,7 @@ import sys
 from pathlib import Path
 
 import pytest
-from test_networks import Dying, all_at_once
+from test_networks import Dying, all_at_once, started
 from test_verified_files import OTHER, Source, changed, drawn
 
 import yurewha as y
@@ -166,6 +166,13 @@ def test_ranges_that_are_far_apart_are_fetched_at_once():
                  threads=4)
     starts = [0, 200_000, 400_000, 600_000]
     assert files.cat_ranges(["a"] * 4, starts, [at + 9 for at in starts]) == [source.data[at:at + 9] for at in starts]
+
+
+def test_threads_that_read_a_file_first_read_one_file():
+    files, meet = made(), all_at_once(2)
+    files._made = lambda name, plain=files._made: (meet(), plain(name))[1]
+    one, other = started(*2 * [lambda: files._file("a.bin")])
+    assert one is other is files._file("a.bin")
 
 
 def test_wrong_ranges():

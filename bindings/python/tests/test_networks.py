@@ -14,7 +14,7 @@ import pytest
 from test_verified_files import OTHER, Ended, Source, at_each_line, changed, drawn, is_right
 
 import yurewha as y
-from yurewha import _library
+from yurewha import _checked_parts, _library
 
 MIB = 1 << 20
 #: What a chunk counts beside its bytes.
@@ -337,6 +337,21 @@ def test_reads_by_position_rescue_too(monkeypatch):
             read(file)
         first, server[0] = server[0], Dying(source, 1 << 60)
         assert file.tell() == 0 and read(file) and first.sent + server[0].sent <= 10_000 + 50
+
+
+def test_reads_that_fail_at_once_have_one_place_for_what_is_rescued(monkeypatch):
+    """Who makes the place has the lock, or another read would make one, too, and what it had rescued would be lost."""
+    source, held = drawn(31, 20), []
+    file, read_at = file_of(plainly, source, [Dying(source, 500)])
+
+    def made(*given, plain=_checked_parts.Reader):
+        held.append(file._reader._lock._is_owned())
+        return plain(*given)
+
+    monkeypatch.setattr("yurewha._checked_parts.Reader", made)
+    with pytest.raises((y.ProofMismatch, ConnectionError)):
+        read_at(0, len(source.data))
+    assert held == [True] and file._rescued.counted() > 0
 
 
 # ---- Late answers
@@ -963,6 +978,17 @@ def test_a_mismatch_says_where_the_wrong_chunk_is(reader):
         with pytest.raises(y.ProofMismatch) as raised:
             read_at(360, 600)
         assert (raised.value.chunk, raised.value.place, raised.value.path) == (2, 450, None)
+
+
+@READERS
+@pytest.mark.parametrize("beyond, fetches", [(MIB, 1), (MIB + 1, 0)])
+def test_a_proof_goes_a_mib_too_far_unless_another_limit_is_given(reader, beyond, fetches):
+    source = drawn(31, 20)
+    source.prove = lambda start, stop: y.RangeProof.from_flat([], [(source.tree.root, stop + beyond)])
+    _, read_at = reader(source)
+    with pytest.raises(y.ProofMismatch):
+        read_at(5, 9)
+    assert len(source.fetched) == fetches
 
 
 @READERS

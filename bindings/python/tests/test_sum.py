@@ -20,7 +20,7 @@ PACKAGE = str(pathlib.Path(y.__file__).resolve().parents[1])
 ABC = m.to_hex(model.file_hash(b"abc"))
 NONE = 64 * "0"
 #: Names that end a line, or are no text.
-ODD = [b"a b", b"back\\slash", b"new\nline", b"return\rhere", b"\\n", b"\xff\xfe", b"-", b"\\", b" a", "ß".encode(), b"*a"]
+ODD = [b"a b", b"back\\slash", b"new\nline", b"return\rhere", b"\\n", b"\xff\xfe", b"-", b"\\", b" a", b"a ", "ß".encode(), b"*a"]
 
 
 def run(*words, folder="/", given=b"", **more):

@@ -195,7 +195,7 @@ class Noted:
 
 
 def handle_of(item):
-    return item._state if isinstance(item, y.Hasher) else item._handle
+    return item._state if isinstance(item, (y.Hasher, y.Chunker)) else item._handle
 
 
 def gets(item, arguments):
@@ -243,6 +243,14 @@ def hashers():
     return (y.Hasher(b"abc"),)
 
 
+def chunkers():
+    return (y.Chunker(),)
+
+
+def hashers_of_files():
+    return (y.FileHasher(b"abc"),)
+
+
 #: How the objects of a call are made, and calls with them.
 USES = {
     subtrees: [
@@ -280,6 +288,13 @@ USES = {
     hashers: [
         lambda hasher: hasher.update(b"abc"), lambda hasher: hasher.update(DATA), lambda hasher: hasher.update(bytearray(LONG)),
         lambda hasher: hasher.count, lambda hasher: hasher.hash(), lambda hasher: hasher.hexdigest(), repr],
+    chunkers: [
+        lambda chunker: chunker.next_boundary(b"abc"), lambda chunker: chunker.next_boundary(DATA),
+        lambda chunker: chunker.next_boundary(bytearray(LONG)), lambda chunker: chunker.taken, repr],
+    hashers_of_files: [
+        lambda hasher: hasher.update(b"abc"), lambda hasher: hasher.update(DATA), lambda hasher: hasher.update(bytearray(LONG)),
+        lambda hasher: hasher.size, lambda hasher: hasher.root(), lambda hasher: hasher.file_hash(),
+        lambda hasher: hasher.file_hash(bytes(32)), sys.getsizeof, repr],
 }
 
 
@@ -324,7 +339,7 @@ def test_a_copy_is_taken_under_the_lock(make):
 
 
 @pytest.mark.parametrize("by_hand", [False, True])
-@pytest.mark.parametrize("make", [subtrees, sessions, trees, indexes, ranges])
+@pytest.mark.parametrize("make", [subtrees, sessions, trees, indexes, ranges, hashers_of_files])
 def test_an_object_is_freed_once_and_under_its_lock(monkeypatch, make, by_hand):
     item = make()[0]
     item._lock = lock = Noted(item._lock)

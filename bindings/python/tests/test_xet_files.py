@@ -7,6 +7,7 @@ import _thread
 import array
 import contextlib
 import functools
+import gc
 import io
 import os
 import pathlib
@@ -24,7 +25,7 @@ import xet_model as m
 from counting import counts
 
 import yurewha as y
-from yurewha import _hash_file, _library
+from yurewha import _guard, _hash_file, _library
 
 MIB = 1 << 20
 LEAST, MOST = 1 << 13, 1 << 17
@@ -51,6 +52,8 @@ MESSAGES = {
     "a million": model.mixed(10**6),
     "three million": mixed(3 * 10**6),
 }
+# A chunk that begins in one piece of a file and ends with the next, in which there is no cut.
+MESSAGES["a MiB and five bytes"] = MESSAGES["three million"][:MIB + 5]
 EACH = pytest.mark.parametrize("name", MESSAGES)
 
 
@@ -230,6 +233,8 @@ def test_what_is_written_during_an_update_is_not_seen(monkeypatch):
     assert data != OFTEN * 3000 and hasher.file_hash() == expected
     data[:] = OFTEN * 3000
     assert y.Chunker().next_boundary(data) == 8193 and data != OFTEN * 3000
+    data[:] = OFTEN * 3000
+    assert y.FileHasher(data).file_hash() == expected and data != OFTEN * 3000
 
 
 @pytest.mark.skipif(counts is None, reason="nothing counts the library's memory")
@@ -429,6 +434,16 @@ def test_memory_does_not_grow_with_the_file(call, most):
         assert tracemalloc.get_traced_memory()[1] < most
     finally:
         tracemalloc.stop()
+
+
+@pytest.mark.parametrize("threads", [1, 3])
+def test_no_object_is_freed_for_each_piece(monkeypatch, threads):
+    """Python ignores what a handler raises while it frees an object, so Ctrl-C would be lost there."""
+    gc.collect()
+    freed, plain = [], _guard.Handle.__del__
+    monkeypatch.setattr(_guard.Handle, "__del__", lambda self: (freed.append(type(self)), plain(self))[1])
+    assert y.hash_file(io.BytesIO(bytes(20 * MIB)), threads=threads) == y.hash_file(io.BytesIO(bytes(20 * MIB)), threads=1)
+    assert 0 < len(freed) < 10
 
 
 def test_no_thread_stays_and_no_file(written):

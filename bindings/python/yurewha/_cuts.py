@@ -85,14 +85,16 @@ class _Left:
     def __init__(self, stream: Readable) -> None:
         self._stream = stream
         self._read: Deque[memoryview] = deque()
+        self._has_ended = False
         #: How many bytes were hashed, and how many were read.
         self.place = self.end = 0
 
     def pieces(self) -> Iterator[bytes]:
-        """Reads the pieces, one after another."""
-        while True:
+        """Reads the pieces, one after another, up to the first end. No chunker would see what a stream gives after that."""
+        while not self._has_ended:
             piece = part_of(self._stream, PIECE)
             if not piece:
+                self._has_ended = True
                 return
             self._read.append(memoryview(piece))
             self.end += len(piece)

@@ -18,7 +18,7 @@ from ._hash import PIECE, Hash, checked_32, data_hash
 from ._hashes import data_hashes
 from ._in_threads import Stopped, checked_threads, in_threads
 from ._saving import Path
-from ._subtree import Subtree
+from ._session import Session
 from ._types import BytesLike, Readable
 
 __all__ = ["chunks_of", "hash_file"]
@@ -67,12 +67,13 @@ def _hashed_alone(stream: Readable, salt: Optional[bytes], progress: Optional[Pr
 
 
 def _hashed_in_threads(stream: Readable, salt: Optional[bytes], threads: int, progress: Optional[Progress]) -> Hash:
-    whole = Subtree.from_chunks(True, (), False)
+    # No object of the library is freed for a piece: what a signal handler raises while Python frees one is lost.
+    whole, count = Session(keep_hashes=False), 0
     with closing(_blocks(stream, threads, progress)) as blocks:
         for block in blocks:
-            whole.merge(Subtree.from_chunks(False, block, False))
-    whole.merge(Subtree.from_chunks(False, (), True))
-    return whole.finish(salt)
+            whole.put(count, block)
+            count += len(block)
+    return whole.finish(count, salt)
 
 
 def chunks_of(path: Source) -> Generator[Chunk, None, None]:
