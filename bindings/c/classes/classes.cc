@@ -113,9 +113,10 @@ static void values()
     MUST(std::vector<yu::chunk>{chunk} == std::vector<yu::chunk>{chunk} && std::optional(low) == std::optional(low));
     MUST(std::pair(low, 1) < std::pair(high, 1));
     MUST(std::unordered_set<yu::hash>(hashes.begin(), hashes.end()).size() == 2 && std::hash<yu::hash>()(low) == 1);
+    MUST(std::hash<yu::hash>()({{UINT64_MAX, 2, 3, 4}}) == UINT64_MAX);
     std::ostringstream text;
-    text << low << ' ' << std::setw(66) << std::setfill('.') << high;
-    MUST(text.str() == yu::hex(low) + " .." + yu::hex(high));
+    text << low << ' ' << std::setw(66) << std::setfill('.') << high << std::left << std::setw(66) << low;
+    MUST(text.str() == yu::hex(low) + " .." + yu::hex(high) + yu::hex(low) + "..");
 }
 
 static void texts()
@@ -418,8 +419,9 @@ static void refusals()
     const std::vector<yu::chunk> chunks = chunks_from(1, 300);
     yu::subtree front(true, some(chunks, 0, 100), false);
     const yu::subtree back(false, some(chunks, 100, 300), true), before = front;
-    yu::session session;
+    yu::session session, other;
     (void)session.put(0, chunks);
+    (void)other.put(7, chunks);
     const std::string text = session.to_json();
     const yu::hash_tree tree(chunks);
     const yu::range_proof proof = tree.proof(1, 2);
@@ -428,8 +430,10 @@ static void refusals()
     THROWS(YUREWHA_MEMORY, yu::subtree(true, chunks, true));
     THROWS(YUREWHA_MEMORY, yu::subtree(front));
     THROWS(YUREWHA_MEMORY, front.merge_into(back));
+    THROWS(YUREWHA_MEMORY, front = back);
     THROWS(YUREWHA_MEMORY, yu::session());
     THROWS(YUREWHA_MEMORY, yu::session(session));
+    THROWS(YUREWHA_MEMORY, session = other);
     THROWS(YUREWHA_MEMORY, session.run(0));
     THROWS(YUREWHA_MEMORY, session.put(1000, chunks));
     THROWS(YUREWHA_MEMORY, yu::hash_tree(chunks));
@@ -460,6 +464,12 @@ static void files()
     MUST(!copy.next_boundary(data.substr(16386)) && copy.taken() == 3614);
     copy = yu::chunker();
     MUST(copy.taken() == 0);
+    // A piece of more than 4 GiB, whose pages nobody reads, and the longest chunk of one byte alone.
+    const std::size_t long_size = (std::size_t{1} << 32) + 1;
+    void *zeros = mmap(nullptr, long_size, PROT_READ, MAP_PRIVATE | MAP_ANONYMOUS | MAP_NORESERVE, -1, 0);
+    MUST(zeros != MAP_FAILED && copy.next_boundary({zeros, long_size}) == 131072);
+    munmap(zeros, long_size);
+    MUST(!copy.next_boundary(std::string(131071, '\a')) && copy.taken() == 131071 && copy.next_boundary("\a"sv) == 1);
 
     yu::file_hasher hasher;
     MUST(hasher.size() == 0 && hasher.root() == yu::hash{} && hasher.finish() == yu::hash{} && hasher.finish_with_salt(salt) == yu::hash{});
@@ -484,7 +494,7 @@ static void files()
 static void hash_indexes()
 {
     const std::vector<yu::hash> hashes = {yu::random_from_seed(1), yu::random_from_seed(2), yu::random_from_seed(1)};
-    const std::vector<std::uint64_t> numbers = {10, UINT64_MAX, 30};
+    const std::vector<std::uint64_t> numbers = {0, UINT64_MAX, 30};
     yu::hash_index index;
     MUST(index.insert(hashes, numbers) == 2 && index.insert(hashes, numbers) == 0);
     THROWS(YUREWHA_ARGUMENTS, index.insert(hashes, {}));
@@ -496,11 +506,11 @@ static void hash_indexes()
     THROWS(YUREWHA_MEMORY, moved.insert(std::vector<yu::hash>{yu::random_from_seed(3)}, std::vector<std::uint64_t>{1}));
     refuses = false;
     const read_only<yu::hash_index> kept(std::move(moved));
-    const std::vector<std::optional<std::uint64_t>> wanted = {UINT64_MAX, std::nullopt, 10};
+    const std::vector<std::optional<std::uint64_t>> wanted = {UINT64_MAX, std::nullopt, 0};
     MUST(kept->len() == 2 && kept->find({}).empty());
     MUST(kept->find(std::vector<yu::hash>{hashes[1], yu::random_from_seed(3), hashes[0]}) == wanted);
     const std::vector<std::pair<yu::hash, std::uint64_t>> entries = kept->entries();
-    const std::set<std::pair<yu::hash, std::uint64_t>> all = {{hashes[0], 10}, {hashes[1], UINT64_MAX}};
+    const std::set<std::pair<yu::hash, std::uint64_t>> all = {{hashes[0], 0}, {hashes[1], UINT64_MAX}};
     MUST(entries.size() == 2 && std::set(entries.begin(), entries.end()) == all && yu::hash_index().entries().empty());
 }
 

@@ -391,6 +391,10 @@ template <class Object> static void moved(const row<Object> &row, std::size_t co
         must_be(outcome(row, from, last), row.empty + " leaves " + state(from), where + ", moved from");
         from = made<Object>(count);
         must_be(outcome(row, from, last = made<Object>(2)), wanted, where + ", assigned to what was moved from");
+        from = made<Object>(count), to = made<Object>(2), last = made<Object>(2);
+        to = std::move(from);
+        must_be(outcome(row, from, last), row.empty + " leaves " + state(from), where + ", moved from by an assignment");
+        must_be(outcome(row, to, last = made<Object>(2)), wanted, where + ", moved to by an assignment");
     }
     // Lists of std may lose what they have if they are moved to themselves.
     if constexpr (!std::is_same_v<Object, yu::range_proof>) {

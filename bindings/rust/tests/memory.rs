@@ -5,11 +5,14 @@
 #![cfg(all(target_os = "linux", target_env = "gnu"))]
 
 use std::cell::Cell;
+use std::env;
 use std::ffi::{c_int, c_void};
 use std::fmt::Debug;
+use std::fs::{self, File};
 use std::io::{self, ErrorKind, Read, Write};
 use std::num::NonZeroUsize;
 use std::panic::{self, catch_unwind, AssertUnwindSafe};
+use std::process;
 use std::ptr;
 use std::sync::atomic::{AtomicBool, AtomicUsize, Ordering};
 use std::sync::Once;
@@ -417,7 +420,10 @@ fn sessions_are_refused() {
     assert_each_refusal(NO_MEMORY, || session.try_range(0));
     assert_each_refusal(NO_MEMORY, || session.try_run_from(59));
     assert_each_refusal(NO_MEMORY, || session.try_clone());
-    assert_each_refusal(NO_MEMORY, || session.gaps(60));
+    let mut apart = Session::new();
+    apart.put(50, &nodes[50..]).unwrap();
+    apart.put(20, &nodes[20..30]).unwrap();
+    assert_each_refusal(NO_MEMORY, || apart.gaps(70));
     assert_each_refusal(NO_MEMORY, || session.known_hashes());
     assert_each_refusal(NO_MEMORY, || session.to_json());
     let text = session.to_json().unwrap();
@@ -491,10 +497,18 @@ fn file_hashers_are_refused() {
     assert_each_refusal(NO_MEMORY, || hasher.file_hash());
     assert_each_refusal(NO_MEMORY, || hasher.file_hash_with_salt(&[7; 32]));
     assert_eq!(hasher.file_hash(), Ok(wanted));
+    // Each request of a writer, which takes nothing then, either.
     let mut hasher = FileHasher::new();
-    let (answer, refused) = with_refusal(0, || hasher.write(&pattern));
-    assert!(refused);
-    assert_eq!(answer.unwrap_err().kind(), ErrorKind::OutOfMemory);
+    for request in 0.. {
+        let (answer, refused) = with_refusal(request, || hasher.write(&pattern));
+        if !refused {
+            assert_eq!(answer.unwrap(), pattern.len());
+            break;
+        }
+        assert_eq!(answer.unwrap_err().kind(), ErrorKind::OutOfMemory);
+        assert_eq!(hasher.size(), 0);
+    }
+    assert_eq!(hasher.file_hash(), Ok(wanted));
 }
 
 #[test]
@@ -566,6 +580,11 @@ fn memory_for_a_file_does_not_grow_with_it() {
     // Its one buffer is used again.
     assert_eq!((greatest, OF_FILES.replace(0)), (OF_A_FILE, 1));
     let greatest = greatest_request(|| _ = own::hash_reader(file(), NonZeroUsize::MIN).unwrap());
+    assert_eq!((greatest, OF_FILES.replace(0)), (OF_A_FILE, 1));
+    let path = env::temp_dir().join(format!("yurewha-memory-{}", process::id()));
+    File::create(&path).unwrap().set_len(32 << 20).unwrap();
+    let greatest = greatest_request(|| _ = own::hash_file(&path, NonZeroUsize::MIN).unwrap());
+    fs::remove_file(path).unwrap();
     assert_eq!((greatest, OF_FILES.get()), (OF_A_FILE, 1));
 }
 
@@ -656,6 +675,16 @@ fn a_value_that_is_dropped_frees_its_memory() {
             .unwrap()
             .take(reader.open(&tree.proof(7..9).unwrap(), 7..9, 0).unwrap())
             .is_err());
+    });
+    assert_eq!(left, 0);
+    // What a panic drops is freed, too.
+    let left = blocks_left(|| {
+        let caught = catch_unwind(|| {
+            let _subtree = MerkleHashSubtree::from_chunks(true, &nodes, false);
+            let _tree = HashTree::from_chunks(&nodes).unwrap();
+            panic::resume_unwind(Box::new(()));
+        });
+        assert!(caught.is_err());
     });
     assert_eq!(left, 0);
     let kept = blocks_left(|| std::mem::forget(MerkleHashSubtree::from_chunks(true, &nodes, false)));

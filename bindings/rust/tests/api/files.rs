@@ -468,14 +468,14 @@ fn a_hash_does_not_end_the_file() {
     assert_eq!(moved.update(&[]).unwrap().file_hash(), Ok(hash(HASH)));
 }
 
-// A reader of some bytes that counts how often it is read once they are read, and then is at an error or at its end.
+// A reader of some bytes that counts how often it is read once they are read. Then it is at its end, or first at an error.
 struct Counting<'a>(&'a [u8], &'a Cell<usize>, Option<ErrorKind>);
 
 impl Read for Counting<'_> {
     fn read(&mut self, room: &mut [u8]) -> io::Result<usize> {
         self.1.set(self.1.get() + usize::from(self.0.is_empty()));
         match self.2 {
-            Some(kind) if self.0.is_empty() => Err(kind.into()),
+            Some(kind) if self.1.get() == 1 => Err(kind.into()),
             _ => self.0.read(room),
         }
     }
@@ -485,15 +485,16 @@ impl Read for Counting<'_> {
 fn an_error_of_a_reader_is_the_last_item() {
     let message = Mixed.bytes(3 << 20);
     let times = Cell::new(0);
-    let broken = || Counting(&message, &times, Some(ErrorKind::BrokenPipe));
-    for count in [1, 3] {
-        assert_eq!(
-            hash_reader(broken(), threads(count)).unwrap_err().kind(),
-            ErrorKind::BrokenPipe
-        );
+    let broken = |kind| {
+        times.set(0);
+        Counting(&message, &times, Some(kind))
+    };
+    for kind in [ErrorKind::BrokenPipe, ErrorKind::WouldBlock] {
+        for count in [1, 3] {
+            assert_eq!(hash_reader(broken(kind), threads(count)).unwrap_err().kind(), kind);
+        }
     }
-    times.set(0);
-    let mut chunks = chunks_of(broken());
+    let mut chunks = chunks_of(broken(ErrorKind::BrokenPipe));
     let before = chunks.by_ref().take_while(Result::is_ok).count();
     // The bytes after the last full MiB were not cut.
     assert!((1..cuts(&message, 1 << 20).len()).contains(&before), "{before}");

@@ -70,6 +70,14 @@ fn a_long_proof_is_looked_at_to_its_end() {
     }
 }
 
+// The pages of these zeros that no call reads take no memory there.
+#[cfg(unix)]
+#[test]
+fn the_first_chunk_ends_in_a_piece_of_more_than_4_gib() {
+    let zeros = vec![0; (1 << 32) + 1];
+    assert_eq!(yurewha::own::Chunker::new().next_boundary(&zeros), Some(1 << 17));
+}
+
 #[test]
 fn a_long_session_is_restored_with_all_its_hashes() {
     let nodes = Draws(33).nodes(MANY);

@@ -3,7 +3,7 @@
 use std::io::{self, ErrorKind, Read};
 use std::num::NonZeroUsize;
 use yurewha::merklehash::{compute_data_hash, file_hash};
-use yurewha::own::{hash_chunks, Node};
+use yurewha::own::{chunks_of, hash_chunks, hash_reader, Node};
 
 // Some bytes, which are the same in every run.
 fn bytes(length: usize) -> Vec<u8> {
@@ -65,30 +65,27 @@ fn chunks_of_a_reader_have_their_hashes_in_order() {
     }
 }
 
-// A reader of zeros that counts the threads that wait for chunks meanwhile.
+// How many threads hash chunks, also those that wait for them.
 #[cfg(target_os = "linux")]
-struct Counting(usize);
-
-#[cfg(target_os = "linux")]
-impl Read for Counting {
-    fn read(&mut self, room: &mut [u8]) -> io::Result<usize> {
-        let tasks = std::fs::read_dir("/proc/self/task")?;
-        // A thread may end before its name is read.
-        let names = tasks.filter_map(|task| std::fs::read_to_string(task.ok()?.path().join("comm")).ok());
-        self.0 = self.0.max(names.filter(|name| name == "yurewha\n").count());
-        room.fill(0);
-        Ok(room.len())
-    }
+fn hashing_threads() -> usize {
+    let tasks = std::fs::read_dir("/proc/self/task").unwrap();
+    // A thread may end before its name is read.
+    let names = tasks.filter_map(|task| std::fs::read_to_string(task.ok()?.path().join("comm")).ok());
+    names.filter(|name| name == "yurewha\n").count()
 }
 
 // More threads than all other tests here have together.
 #[cfg(target_os = "linux")]
 #[test]
 fn so_many_threads_hash_as_are_asked_for() {
-    let mut reader = Counting(0);
-    hash_chunks(&mut reader, [10; 200], threads(100)).unwrap();
-    // This thread is the hundredth.
-    assert!(reader.0 >= 99, "{}", reader.0);
+    let mut are_there = false;
+    // The system may let threads begin late, so the last chunk waits for them. This thread is the hundredth.
+    let lengths = (0..200).map(|number| {
+        are_there = number == 199 && (0..10_000).any(|_| hashing_threads() >= 99);
+        10
+    });
+    hash_chunks(io::repeat(0), lengths, threads(100)).unwrap();
+    assert!(are_there);
 }
 
 #[test]
@@ -128,6 +125,29 @@ fn a_reader_that_ends_or_breaks_is_an_error() {
         );
         let error = hash_chunks(Broken(&data, false), lengths, threads(2)).unwrap_err();
         assert_eq!(error.kind(), ErrorKind::BrokenPipe);
+    }
+}
+
+// A reader that says that it read a byte more than there was room for. It read none.
+struct Boasting;
+
+impl Read for Boasting {
+    fn read(&mut self, room: &mut [u8]) -> io::Result<usize> {
+        Ok(room.len() + 1)
+    }
+}
+
+#[test]
+fn a_reader_that_says_that_it_read_more_than_it_had_room_for_is_refused() {
+    let calls: [fn(); 3] = [
+        || _ = hash_chunks(Boasting, [7, 7], threads(1)),
+        || _ = hash_reader(Boasting, threads(1)),
+        || _ = chunks_of(Boasting).next(),
+    ];
+    for call in calls {
+        let caught = std::panic::catch_unwind(call).unwrap_err();
+        let wanted = "a reader says that it read more than it had room for";
+        assert_eq!(caught.downcast_ref(), Some(&wanted));
     }
 }
 

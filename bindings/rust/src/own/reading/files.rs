@@ -246,6 +246,13 @@ mod tests {
     use std::io::Seek;
     use std::{env, fs, process};
 
+    // No test can read so much.
+    #[test]
+    fn a_file_that_is_too_long_is_no_lack_of_memory() {
+        assert_eq!(failed(SessionFault::Sizes).kind(), ErrorKind::InvalidInput);
+        assert_eq!(failed(SessionFault::OutOfMemory).kind(), ErrorKind::OutOfMemory);
+    }
+
     // A reader of a file whose length is changed once so many bytes were read.
     struct Changing<'a> {
         file: &'a File,
@@ -262,11 +269,11 @@ mod tests {
         }
     }
 
-    // What hashing comes to, of a file of 3 MiB whose length is changed once so many bytes were read, if at most so many are.
-    fn hash_changing(name: &str, (after, length): (u64, u64), most: u64) -> io::Result<MerkleHash> {
+    // What hashing comes to, of a file of so many bytes whose length is changed once so many were read, if at most so many are.
+    fn hash_changing(name: &str, before: u64, (after, length): (u64, u64), most: u64) -> io::Result<MerkleHash> {
         let path = env::temp_dir().join(format!("yurewha-{name}-{}", process::id()));
         let file = File::options().read(true).write(true).create_new(true).open(&path)?;
-        file.set_len(3 << 20)?;
+        file.set_len(before)?;
         let file = Changing {
             file: &file,
             after,
@@ -280,18 +287,22 @@ mod tests {
     #[test]
     fn a_file_that_changes_its_length_while_it_is_read_is_an_error() {
         let zeros = hash_reader(io::repeat(0).take(3 << 20), NonZeroUsize::MIN).unwrap();
-        assert_eq!(hash_changing("kept", (1 << 20, 3 << 20), u64::MAX).unwrap(), zeros);
-        for (name, change, most) in [
-            ("grows", (1 << 20, (3 << 20) + 1), u64::MAX),
-            ("grows-at-its-end", (3 << 20, 4 << 20), u64::MAX),
-            ("grows-unread", (1 << 20, 4 << 20), 3 << 20),
-            ("shrinks", (1 << 20, (3 << 20) - 1), u64::MAX),
-            ("shrinks-behind", (2 << 20, 1 << 20), u64::MAX),
-            ("shrinks-at-its-end", (3 << 20, 0), u64::MAX),
+        assert_eq!(
+            hash_changing("kept", 3 << 20, (1 << 20, 3 << 20), u64::MAX).unwrap(),
+            zeros
+        );
+        for (name, before, change, most) in [
+            ("grows-from-nothing", 0, (0, 1), u64::MAX),
+            ("grows", 3 << 20, (1 << 20, (3 << 20) + 1), u64::MAX),
+            ("grows-at-its-end", 3 << 20, (3 << 20, 4 << 20), u64::MAX),
+            ("grows-unread", 3 << 20, (1 << 20, 4 << 20), 3 << 20),
+            ("shrinks", 3 << 20, (1 << 20, (3 << 20) - 1), u64::MAX),
+            ("shrinks-behind", 3 << 20, (2 << 20, 1 << 20), u64::MAX),
+            ("shrinks-at-its-end", 3 << 20, (3 << 20, 0), u64::MAX),
             // As if it had been shorter for a while.
-            ("ends-early", (u64::MAX, 0), (3 << 20) - 1),
+            ("ends-early", 3 << 20, (u64::MAX, 0), (3 << 20) - 1),
         ] {
-            let error = hash_changing(name, change, most).unwrap_err();
+            let error = hash_changing(name, before, change, most).unwrap_err();
             assert_eq!(error.to_string(), "its length changed while it was read", "{name}");
         }
     }

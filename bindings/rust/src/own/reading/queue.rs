@@ -139,3 +139,31 @@ impl<T: Send> Drop for Closing<'_, T> {
 pub(super) fn unpoisoned<T>(locked: Result<T, PoisonError<T>>) -> T {
     locked.unwrap_or_else(PoisonError::into_inner)
 }
+
+#[cfg(test)]
+mod tests {
+    use super::*;
+    use std::sync::mpsc;
+    use std::time::Duration;
+
+    // Each task comes only after the one before it was done: the first by the reading thread, and the others by another one.
+    #[test]
+    fn a_thread_that_waits_is_woken_by_each_task() {
+        let (sender, receiver) = mpsc::channel();
+        let tasks = (0..1000).map(|number| {
+            let last = Duration::from_secs(60);
+            assert!(
+                number == 0 || receiver.recv_timeout(last) == Ok(number - 1),
+                "task {number} waits"
+            );
+            Ok(number)
+        });
+        let work = |number| {
+            sender.send(number).unwrap();
+            None::<()>
+        };
+        assert!(Queue::new()
+            .on_threads(tasks, work, NonZeroUsize::new(2).unwrap())
+            .is_ok());
+    }
+}
