@@ -482,6 +482,10 @@ test("a chunk of a stream comes before the next is read, from pieces that change
     assert.deepEqual([String((await chunks.next()).value[0]), given], [String(y.dataHash(second)), 3]);
     await chunks.return();
     assert.equal(cancelled, 1);
+    const wiping = async function* (pieces) {
+        for await (const given of pieces) given.fill(0);
+    };
+    assert.deepEqual(await all(y.hashCuts([bytesOf(5000)], wiping)), [[String(y.dataHash(bytesOf(5000))), 5000]], "a chunker may change its pieces");
 });
 
 test("cuts rise, are within the data, and a chunker's are of bytes that it was given", async () => {
