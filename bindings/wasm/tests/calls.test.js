@@ -77,6 +77,7 @@ test("bytes are a Uint8Array", () => {
         (value) => y.fileHash([[hash, 1]], value),
         (value) => y.Subtree.fromJSON(value),
         (value) => y.Subtree.fromChunks(true, [], true).fileHash(value),
+        (value) => new y.FileHasher().fileHash(value),
         (value) => new y.Session().finish(0, value),
     ];
     for (const call of [...ofData, ...others]) {

@@ -240,14 +240,11 @@ test("what isn't a way to hash a file is refused", async () => {
 });
 
 test("a file that changes while it is read has no hash", async () => {
-    class Changed extends File {
-        stream() {
-            return new Blob([MIXED.subarray(0, 5)]).stream();
-        }
-    }
+    const changed = (file) => Object.assign(file, { stream: () => new Blob([MIXED.subarray(0, 5)]).stream() });
     for (const length of [4, 6]) {
-        const told = new Error(`its name has ${length} bytes, and 5 came`);
-        await assert.rejects(y.hashFile(new Changed([zeros(length)], "its name")), told);
+        for (const [file, name] of [[new File([zeros(length)], "its name"), "its name"], [new Blob([zeros(length)]), "a Blob"]]) {
+            await assert.rejects(y.hashFile(changed(file)), new Error(`${name} has ${length} bytes, and 5 came`));
+        }
     }
     const folder = await mkdtemp(join(tmpdir(), "yurewha-"));
     try {

@@ -93,14 +93,36 @@ def a_list_can_be_merged_at_once(browser: Browser, folder: Path) -> None:
         merged = browser.run(figures)[place]
         same(f"at most {both // 2 + levels}: half of the {both} nodes that both kept" in merged, True, merged)
     same(text(browser, "verdict"), "The same.")
+    history = "return [...document.querySelectorAll('#no-history:not([hidden]), #history .bracketing')].map((it) => it.textContent)"
+    same(browser.run(history), ["((1–16 17–32) (33–48 49–64))"])
+    ids = "return [...document.querySelectorAll('button.merge')].map((it) => it.id)"
+    for position in (10, 32, 10):
+        browser.click(f"#between-{position}")
+    browser.click("#cut-again")
+    same(browser.run(ids), ["between-10", "between-32"], "what was cut last")
     browser.run("const drawn = [63, 9, 1, 10, 9]; Math.random = () => (drawn.pop() - 0.5) / 63")
     browser.click("#cut-at-random")
-    ids = browser.run("return [...document.querySelectorAll('button.merge')].map((it) => it.id)")
-    same([ids, text(browser, "said")], [[f"between-{position}" for position in (1, 9, 10, 63)], "Cut into 5 ranges."])
+    same([browser.run(ids), text(browser, "said")], [[f"between-{position}" for position in (1, 9, 10, 63)], "Cut into 5 ranges."])
     for count, wanted in ((1, 1), (2, 2), (3, 3), (4, 4), (5, 4), (500, 4)):
         fill(browser, {"count": count})
         browser.click("#draw button")
         same(browser.run(ranges), [wanted, wanted - 1], f"{count} chunks")
+
+
+def ranges_show_the_nodes_that_they_keep(browser: Browser, folder: Path) -> None:
+    fill(browser, {"count": 500})
+    browser.click("#draw button")
+    script = """
+        const hashes = (level) => [...level.querySelectorAll(".node:not(.hidden)")].map((node) => node.title.split("\\n")[1]);
+        return [...document.querySelectorAll(".range")].map((card) => [...card.querySelectorAll(".levels > li")].map(hashes).reverse());
+    """
+    nodes, ends = [(m.random_from_seed(122 + k), 100 + 977 * k % 9901) for k in range(500)], [0, 125, 250, 375, 500]
+    for position in (250, 125, 375, None):
+        kept = (m.canon(nodes[start:end], start == 0, end == 500).levels for start, end in zip(ends, ends[1:]))
+        same(browser.run(script), [[[m.to_hex(hash_) for hash_, _ in left + right] for left, right in levels] for levels in kept], f"{ends}")
+        if position:
+            browser.click(f"#between-{position}")
+            ends.remove(position)
 
 
 def lists_may_have_cr_lf(browser: Browser, folder: Path) -> None:
@@ -156,6 +178,7 @@ def a_part_may_end_beyond_the_file(browser: Browser, folder: Path) -> None:
     browser.type("#part-of", file(folder, "part", bytes(3000)))
     # These bytes were asked for of a longer file.
     same(settled(browser, "parts", lambda it: it[1] == "3000 bytes in 6 chunks")[3], "Accepted: these are bytes 0 to 99 of a file of 3000 bytes.")
+    same(browser.run("return ['from', 'to'].map((id) => document.getElementById(id).max)"), ["2999", "2999"])
     nodes = [(m.compute_data_hash(bytes(500)), 500)] * 6
     for first, last, shown in ((2999, 5000, (2999, 2999)), (0, 10**9, (0, 2999)), (1400, 1600, (1400, 1600)), (1400, 1640, (1400, 1640))):
         fill(browser, {"from": first, "to": last})
@@ -167,6 +190,7 @@ def a_part_may_end_beyond_the_file(browser: Browser, folder: Path) -> None:
         assert chunks
         words = browser.run("return document.getElementById('path').getAttribute('aria-label')")
         sides = [(str(len(left)), str(len(right))) for left, right in r.prove(nodes, *chunks).levels]
+        same(browser.run("return document.querySelectorAll('#path line').length - document.querySelectorAll('#path g').length"), -1, "each but the root has a parent")
         same(re.findall(r"(\d+) on the left and (\d+) on the right", words), sides)
         choose(browser, "byte")
         same(text(browser, "part-verdict"), "Refused: 1 chunk of the data isn’t the file’s.")
@@ -329,8 +353,9 @@ def what_is_dropped_stays_on_the_page(browser: Browser, folder: Path) -> None:
         const given = { dataTransfer: new DataTransfer(), bubbles: true, cancelable: true };
         return document.getElementById("drop").dispatchEvent(new DragEvent(arguments[0], given));
     """
-    for kind in ("dragenter", "dragover", "drop"):
-        same([browser.run(script, kind), state(browser, "files")], [False, found], kind)
+    over = "return document.getElementById('drop').classList.contains('over')"
+    for kind, is_over in (("dragenter", True), ("dragover", True), ("dragleave", False), ("dragover", True), ("drop", False)):
+        same([browser.run(script, kind), browser.run(over), state(browser, "files")], [False, is_over, found], kind)
 
 
 def a_worker_that_cant_run_is_told(browser: Browser, folder: Path) -> None:
@@ -364,6 +389,8 @@ def arrows_go_round_the_tabs(browser: Browser, folder: Path) -> None:
         for tab, wanted in zip(tabs, tabs[1:]):
             browser.type(f"#tab-{tab}", key)
             same(browser.run("return [document.activeElement.id, document.getElementById(arguments[0]).hidden]", wanted), [f"tab-{wanted}", False])
+            reached = "return [...document.querySelectorAll('[role=tab]')].filter((it) => it.tabIndex === 0).map((it) => it.id)"
+            same(browser.run(reached), [f"tab-{wanted}"])
 
 
 def the_page_asks_no_other_place(browser: Browser, folder: Path) -> None:
@@ -441,6 +468,7 @@ CASES: Dict[str, Callable[[Browser, Path], None]] = {
         choices_of_files_end_earlier_ones, choices_of_parts_end_earlier_ones, what_is_not_read_yet_shows_nothing, a_message_stays_on_its_tab,
         nothing_lives_that_is_not_shown, work_can_be_cancelled, files_are_cut_as_xet_does, what_is_dropped_stays_on_the_page, a_worker_that_cant_run_is_told,
         what_is_pressed_ends_what_plays, another_root_is_told, arrows_go_round_the_tabs, the_page_asks_no_other_place,
+        ranges_show_the_nodes_that_they_keep,
     )
 }
 

@@ -114,7 +114,7 @@ test("a stream takes chunks up to a limit, and keeps nothing of one that is long
         new errors.ProofMismatch(`by the proof, chunk ${chunk} of the range has ${length} bytes, more than chunkLimit, ${limit}`);
     const long = new Uint8Array((1 << 20) + 1).fill(7);
     for (const [length, options, limit] of [
-        [1 << 20, undefined, 1 << 20], [long.length, undefined, 1 << 20], [long.length, { chunkLimit: long.length }, long.length],
+        [1 << 20, undefined, 1 << 20], [1 << 20, {}, 1 << 20], [long.length, undefined, 1 << 20], [long.length, { chunkLimit: long.length }, long.length],
         [9, { chunkLimit: 9n }, 9], [10, { chunkLimit: 9n }, 9], [0, { chunkLimit: 0 }, 0],
     ]) {
         const whole = [data[0], long.subarray(0, length)];
