@@ -822,7 +822,7 @@ test("load takes an address, bytes, a compiled module and a response", async () 
     const bytes = BYTES;
     const file = new URL("bindings/wasm/yurewha/yurewha.wasm", ROOT);
     const buffer = bytes.buffer.slice(bytes.byteOffset, bytes.byteOffset + bytes.length);
-    const sources = [undefined, file, file.href, bytes, buffer, await WebAssembly.compile(bytes), new Response(bytes), Promise.resolve(bytes)];
+    const sources = [undefined, "./yurewha.wasm", file, file.href, bytes, buffer, await WebAssembly.compile(bytes), new Response(bytes), Promise.resolve(bytes)];
     for (const source of sources) assert.ok((await errors.load(source)).dataHash(bytesOf(9)).hex() === y.dataHash(bytesOf(9)).hex());
     await assert.rejects(errors.load(new Uint8Array(8)), WebAssembly.CompileError);
     await assert.rejects(errors.load(new URL("none.wasm", file)));

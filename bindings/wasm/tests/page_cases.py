@@ -106,7 +106,7 @@ def a_list_can_be_merged_at_once(browser: Browser, folder: Path) -> None:
     for count, wanted in ((1, 1), (2, 2), (3, 3), (4, 4), (5, 4), (500, 4)):
         fill(browser, {"count": count})
         browser.click("#draw button")
-        same(browser.run(ranges), [wanted, wanted - 1], f"{count} chunks")
+        same([*browser.run(ranges), text(browser, "root-merged")], [wanted, wanted - 1, ""], f"{count} chunks")
 
 
 def ranges_show_the_nodes_that_they_keep(browser: Browser, folder: Path) -> None:
@@ -152,6 +152,9 @@ def cuts_may_be_at_both_ends(browser: Browser, folder: Path) -> None:
     # Other cuts are taken of the same file, once they are typed.
     browser.run("const it = document.getElementById('cuts'); it.value = '7'; it.dispatchEvent(new Event('change'))")
     settled(browser, "files", lambda it: [row[1] for row in it[0]] == ["7", "23"] and it[2] == "Done.")
+    browser.type("#chunks-of", "\n".join(file(folder, name, SMALL) for name in ("one", "two")))
+    said = "The cuts are those of one file: choose one, or leave the cuts empty."
+    same(settled(browser, "files", lambda it: it[-1] is not None)[0::4], [[], said])
 
 
 def files_are_cut_as_xet_does(browser: Browser, folder: Path) -> None:
@@ -328,6 +331,16 @@ def what_is_not_read_yet_shows_nothing(browser: Browser, folder: Path) -> None:
     same(settled(browser, "files", lambda it: it[2] == "Working.")[:2], [[], None])
 
 
+def what_is_not_chosen_shows_nothing(browser: Browser, folder: Path) -> None:
+    """A browser tells of a choice of no file, too."""
+    for tab, name, before in (("files", "chunks-of", "a file"), ("files", "pairs-of", "pairs"), ("parts", "part-of", "a file")):
+        browser.click(f"#tab-{tab}")
+        choices_of(folder)[tab][before](browser)
+        settled(browser, tab, ENDS[tab][before])
+        browser.run("const it = document.getElementById(arguments[0]); it.value = ''; it.dispatchEvent(new Event('change'))", name)
+        same(state(browser, tab), [[], None, "", [[], []], None] if tab == "files" else [*EMPTY_PART, [], None], name)
+
+
 def work_can_be_cancelled(browser: Browser, folder: Path) -> None:
     browser.click("#tab-files")
     for name in ("slow", "slow pairs", "slow drop"):
@@ -385,7 +398,7 @@ def another_root_is_told(browser: Browser, folder: Path) -> None:
 
 
 def arrows_go_round_the_tabs(browser: Browser, folder: Path) -> None:
-    for key, tabs in (("\ue014", ("ranges", "files", "parts", "ranges")), ("\ue012", ("ranges", "parts", "files", "ranges"))):
+    for key, tabs in (("x", ("ranges", "ranges")), ("\ue014", ("ranges", "files", "parts", "ranges")), ("\ue012", ("ranges", "parts", "files", "ranges"))):
         for tab, wanted in zip(tabs, tabs[1:]):
             browser.type(f"#tab-{tab}", key)
             same(browser.run("return [document.activeElement.id, document.getElementById(arguments[0]).hidden]", wanted), [f"tab-{wanted}", False])
@@ -468,7 +481,7 @@ CASES: Dict[str, Callable[[Browser, Path], None]] = {
         choices_of_files_end_earlier_ones, choices_of_parts_end_earlier_ones, what_is_not_read_yet_shows_nothing, a_message_stays_on_its_tab,
         nothing_lives_that_is_not_shown, work_can_be_cancelled, files_are_cut_as_xet_does, what_is_dropped_stays_on_the_page, a_worker_that_cant_run_is_told,
         what_is_pressed_ends_what_plays, another_root_is_told, arrows_go_round_the_tabs, the_page_asks_no_other_place,
-        ranges_show_the_nodes_that_they_keep,
+        ranges_show_the_nodes_that_they_keep, what_is_not_chosen_shows_nothing,
     )
 }
 

@@ -86,7 +86,7 @@ test("it reads what a Blob reads", async () => {
     for (const [given, wanted] of [[[NaN, 12], [0, 12]], [[null, 3], [0, 3]], [["3", "8"], [3, 8]]]) {
         assert.equal(await verified.slice(...given).text(), data.subarray(...wanted).toString());
     }
-    for (const type of [undefined, "", "Image/PNG", "ümlaut", "a\nb"]) assert.equal(verified.slice(0, 1, type).type, blob.slice(0, 1, type).type);
+    for (const type of [undefined, null, 5, "", "Image/PNG", "ümlaut", "a\nb"]) assert.equal(verified.slice(0, 1, type).type, blob.slice(0, 1, type).type);
     const text = Buffer.from("\uFEFFäöü");
     const leaf = y.dataHash(text);
     const single = y.HashTree.fromChunks([[leaf, text.length]]);
