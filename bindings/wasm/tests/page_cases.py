@@ -100,7 +100,7 @@ def a_list_can_be_merged_at_once(browser: Browser, folder: Path) -> None:
         browser.click(f"#between-{position}")
     browser.click("#cut-again")
     same(browser.run(ids), ["between-10", "between-32"], "what was cut last")
-    browser.run("const drawn = [63, 9, 1, 10, 9]; Math.random = () => (drawn.pop() - 0.5) / 63")
+    browser.run("const drawn = [63, 9, 1, 10, 9]; window.Math.random = () => (drawn.pop() - 0.5) / 63")
     browser.click("#cut-at-random")
     same([browser.run(ids), text(browser, "said")], [[f"between-{position}" for position in (1, 9, 10, 63)], "Cut into 5 ranges."])
     for count, wanted in ((1, 1), (2, 2), (3, 3), (4, 4), (5, 4), (500, 4)):
@@ -163,7 +163,7 @@ def files_are_cut_as_xet_does(browser: Browser, folder: Path) -> None:
     saying = """
         window.said = [];
         const [text, bar] = ["progress-said", "progress"].map((id) => document.getElementById(id));
-        new MutationObserver(() => said.push([text.textContent, bar.value])).observe(text, { childList: true });
+        new MutationObserver(() => said.push([text.textContent, Number(bar.value.toFixed(9))])).observe(text, { childList: true });
     """
     browser.run(saying)
     browser.type("#chunks-of", "\n".join(file(folder, name, data) for name, data in datas.items()))
@@ -172,7 +172,7 @@ def files_are_cut_as_xet_does(browser: Browser, folder: Path) -> None:
     # The last chunk has one byte, of which nothing is said.
     total = sum(len(data) for data in datas.values())
     passed = [*chunker.cuts(datas["mixed"]), len(datas["mixed"]) + chunker.cuts(datas["zeros"])[0]]
-    said = [["Working.", 0], *([f"{int(100 * (count / total))} %", count / total] for count in passed), ["Done.", 1]]
+    said = [["Working.", 0], *([f"{int(100 * (count / total))} %", round(count / total, 9)] for count in passed), ["Done.", 1]]
     same(browser.run("return window.said"), said)
 
 
@@ -211,6 +211,9 @@ def there_are_limits(browser: Browser, folder: Path) -> None:
     browser.click("#tab-files")
     browser.type("#pairs-of", file(folder, "long", length=256 * 2**20 + 1))
     settled(browser, "files", lambda it: it[-1] == "The file has more than 268435456 bytes.")
+    # Space is read once, however much of it there is.
+    browser.type("#pairs-of", file(folder, "spaces", b"x" + b" " * 10**6 + b"x"))
+    settled(browser, "files", lambda it: (it[-1] or "").startswith("Line 1 is no pair"))
     browser.click("#tab-parts")
     browser.type("#part-of", file(folder, "longer", length=64 * 2**20 + 1))
     same(settled(browser, "parts", lambda it: it[-1] is not None)[-1], "The file has more than 67108864 bytes.")
