@@ -77,6 +77,7 @@ test("bytes are a Uint8Array", () => {
         (value) => y.fileHash([[hash, 1]], value),
         (value) => y.Subtree.fromJSON(value),
         (value) => y.Subtree.fromChunks(true, [], true).fileHash(value),
+        (value) => new y.FileHasher().fileHash(value),
         (value) => new y.Session().finish(0, value),
     ];
     for (const call of [...ofData, ...others]) {
@@ -482,6 +483,10 @@ test("a chunk of a stream comes before the next is read, from pieces that change
     assert.deepEqual([String((await chunks.next()).value[0]), given], [String(y.dataHash(second)), 3]);
     await chunks.return();
     assert.equal(cancelled, 1);
+    const wiping = async function* (pieces) {
+        for await (const given of pieces) given.fill(0);
+    };
+    assert.deepEqual(await all(y.hashCuts([bytesOf(5000)], wiping)), [[String(y.dataHash(bytesOf(5000))), 5000]], "a chunker may change its pieces");
 });
 
 test("cuts rise, are within the data, and a chunker's are of bytes that it was given", async () => {
@@ -817,7 +822,7 @@ test("load takes an address, bytes, a compiled module and a response", async () 
     const bytes = BYTES;
     const file = new URL("bindings/wasm/yurewha/yurewha.wasm", ROOT);
     const buffer = bytes.buffer.slice(bytes.byteOffset, bytes.byteOffset + bytes.length);
-    const sources = [undefined, file, file.href, bytes, buffer, await WebAssembly.compile(bytes), new Response(bytes), Promise.resolve(bytes)];
+    const sources = [undefined, "./yurewha.wasm", file, file.href, bytes, buffer, await WebAssembly.compile(bytes), new Response(bytes), Promise.resolve(bytes)];
     for (const source of sources) assert.ok((await errors.load(source)).dataHash(bytesOf(9)).hex() === y.dataHash(bytesOf(9)).hex());
     await assert.rejects(errors.load(new Uint8Array(8)), WebAssembly.CompileError);
     await assert.rejects(errors.load(new URL("none.wasm", file)));

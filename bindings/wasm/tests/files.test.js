@@ -92,7 +92,10 @@ test("a file has the model's chunks and hash, in whatever pieces it comes", asyn
             assert.equal(`${await y.hashFile(ReadableStream.from(pieces()))}`, hash, told);
         }
         for (const blob of [new Blob([data]), new File([data], "name")]) assert.equal(`${await y.hashBlob(blob)}`, hash, `${data.length} bytes`);
-        assert.deepEqual(await y.hashFile(new Blob([data]), { salt }), y.fileHash(list, salt));
+        const given = salt.slice();
+        const salted = y.hashFile(new Blob([data]), { salt: given });
+        given.fill(0);
+        assert.deepEqual(await salted, y.fileHash(list, salt), "the salt is that of the call");
     }
 });
 
@@ -141,19 +144,21 @@ test("a file's hasher goes on after it was asked, and takes pieces longer than t
     assert.equal(hasher.size, BigInt(MIXED.length + 2 * AREA));
 });
 
-test("a piece of a file is taken whole or not at all", async () => {
-    for (let refused = 1; refused < 6; refused++) {
-        let calls = 0;
-        const { yurewha } = await wrapped(BYTES, (exports) => ({
-            ...exports,
-            yurewha_file_hasher_update: (...given) => (++calls === refused ? STATUS.MEMORY : exports.yurewha_file_hasher_update(...given)),
-        }));
-        const hasher = new yurewha.FileHasher();
-        try {
-            hasher.update(zeros(2 * AREA));
-            assert.equal(hasher.size, BigInt(2 * AREA));
-        } catch (error) {
-            assert.deepEqual([error.constructor, hasher.size], [errors.OutOfMemory, 0n]);
+test("a piece is taken whole or not at all", async () => {
+    for (const [kind, name, count] of [["FileHasher", "yurewha_file_hasher_update", "size"], ["Hasher", "yurewha_hasher_update", "count"]]) {
+        for (let refused = 1; refused < 6; refused++) {
+            let calls = 0;
+            const { yurewha } = await wrapped(BYTES, (exports) => ({
+                ...exports,
+                [name]: (...given) => (++calls === refused ? STATUS.MEMORY : exports[name](...given)),
+            }));
+            const hasher = new yurewha[kind]();
+            try {
+                hasher.update(zeros(2 * AREA));
+                assert.equal(hasher[count], BigInt(2 * AREA));
+            } catch (error) {
+                assert.deepEqual([error.constructor, hasher[count]], [errors.OutOfMemory, 0n], `${kind} ${refused}`);
+            }
         }
     }
 });
@@ -182,8 +187,9 @@ test("short pieces of a file go to the module in long ones, and long ones in par
 test("the progress of a file is told after each piece, and an error of the caller's ends it", async () => {
     const { it, seen } = await noted();
     const told = [];
-    await it.hashFile(piecesOf(MIXED, 300_000), { onProgress: (count) => void told.push(count) });
-    assert.deepEqual(told, [300_000, 600_000, 900_000, 1_000_000]);
+    // What it returns is nothing to the call.
+    const hash = await it.hashFile(piecesOf(MIXED, 300_000), { onProgress: (count) => told.push(count) });
+    assert.deepEqual([told, `${hash}`], [[300_000, 600_000, 900_000, 1_000_000], MIXED_HASH]);
     const failing = () => {
         throw new Error("of the caller");
     };
@@ -221,6 +227,9 @@ test("what isn't a way to hash a file is refused", async () => {
     const table = [
         [{ salt: new Uint8Array(31) }, new errors.InvalidArguments("a salt must have 32 bytes, got a Uint8Array of 31 bytes")],
         [{ salt: "salt" }, new TypeError('a salt must be a Uint8Array, got "salt"')],
+        [{ salt: null }, new TypeError("a salt must be a Uint8Array, got null")],
+        [{ signal: null }, new TypeError("a signal must be an AbortSignal, got null")],
+        [{ onProgress: null }, new TypeError("onProgress must be a function, got null")],
         [{ signal: 5 }, new TypeError("a signal must be an AbortSignal, got 5")],
         [{ onProgress: {} }, new TypeError("onProgress must be a function, got an object")],
     ];
@@ -231,14 +240,11 @@ test("what isn't a way to hash a file is refused", async () => {
 });
 
 test("a file that changes while it is read has no hash", async () => {
-    class Changed extends File {
-        stream() {
-            return new Blob([MIXED.subarray(0, 5)]).stream();
-        }
-    }
+    const changed = (file) => Object.assign(file, { stream: () => new Blob([MIXED.subarray(0, 5)]).stream() });
     for (const length of [4, 6]) {
-        const told = new Error(`its name has ${length} bytes, and 5 came`);
-        await assert.rejects(y.hashFile(new Changed([zeros(length)], "its name")), told);
+        for (const [file, name] of [[new File([zeros(length)], "its name"), "its name"], [new Blob([zeros(length)]), "a Blob"]]) {
+            await assert.rejects(y.hashFile(changed(file)), new Error(`${name} has ${length} bytes, and 5 came`));
+        }
     }
     const folder = await mkdtemp(join(tmpdir(), "yurewha-"));
     try {

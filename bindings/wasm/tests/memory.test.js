@@ -2,7 +2,8 @@
 
 import assert from "node:assert/strict";
 import { InvalidText, OutOfMemory, load } from "../yurewha/index.js";
-import { AREA } from "../yurewha/library.js";
+import { instanceOver } from "../yurewha/instance.js";
+import { AREA, Library } from "../yurewha/library.js";
 import { BYTES, capped, chunksOf, mixed, pagesOf, test, wrapped } from "./support.js";
 
 const COUNT = 300;
@@ -206,6 +207,25 @@ test("wasm32: no call writes a byte past a block that it was given", async () =>
     checked("texts");
     for (let count = AREA / 40 - 5; count < AREA / 40 + 5; count++) y.xorbHash(new y.Chunks(new Uint8Array(40 * Math.floor(count))));
     checked("chunks");
+});
+
+test("wasm32: no call writes a byte past a part that it was given", async () => {
+    const guard = Buffer.alloc(4096, 7);
+    // Each part has a block of its own, and bytes behind it that no call may write.
+    class Guarding extends Library {
+        over(parts, run) {
+            const blocks = parts.map((part) => [this.allocate((part.length ?? part) + guard.length), part.length ?? part]);
+            blocks.forEach(([block, length], k) => {
+                if (parts[k].length) this.write(block, parts[k]);
+                this.write(block + length, guard);
+            });
+            const result = run(...blocks.map(([block]) => block));
+            for (const [block, length] of blocks) assert.ok(guard.equals(this.read(block + length, guard.length)), `${length} bytes: ${run}`);
+            return result;
+        }
+    }
+    const { instance } = await WebAssembly.instantiate(BYTES, {});
+    for (const call of Object.values(scene(instanceOver(new Guarding(instance.exports))).calls)) call();
 });
 
 test("wasm32: what an object held is used again after it was freed", async () => {

@@ -12,6 +12,7 @@ from typing import Any, Callable, Dict, List
 
 from pages import ROOT, Browser, address_of, choose, drop, error, fill, opened, same, served, text, wait
 import chunker
+import range_proof as r
 import xet_model as m
 
 SMALL = b"a chunk"
@@ -84,13 +85,44 @@ def each_control_is_used_by_a_test(browser: Browser, folder: Path) -> None:
 def a_list_can_be_merged_at_once(browser: Browser, folder: Path) -> None:
     ranges = "return [document.querySelectorAll('.range').length, document.querySelectorAll('button.merge').length]"
     same([browser.run(ranges), text(browser, "said")], [[4, 3], "64 chunks in 4 ranges."])
-    for position in (16, 48, 32):
+    figures = "return [...document.querySelectorAll('.range > .figures')].map((it) => it.textContent)"
+    for position, place in ((16, 0), (48, 1), (32, 0)):
+        both = sum(int(it.split()[1]) for it in browser.run(figures)[place : place + 2])
         browser.click(f"#between-{position}")
+        levels = browser.run("return document.querySelectorAll('.range')[arguments[0]].querySelectorAll('.levels > li').length", place)
+        merged = browser.run(figures)[place]
+        same(f"at most {both // 2 + levels}: half of the {both} nodes that both kept" in merged, True, merged)
     same(text(browser, "verdict"), "The same.")
+    history = "return [...document.querySelectorAll('#no-history:not([hidden]), #history .bracketing')].map((it) => it.textContent)"
+    same(browser.run(history), ["((1–16 17–32) (33–48 49–64))"])
+    ids = "return [...document.querySelectorAll('button.merge')].map((it) => it.id)"
+    for position in (10, 32, 10):
+        browser.click(f"#between-{position}")
+    browser.click("#cut-again")
+    same(browser.run(ids), ["between-10", "between-32"], "what was cut last")
+    browser.run("const drawn = [63, 9, 1, 10, 9]; window.Math.random = () => (drawn.pop() - 0.5) / 63")
+    browser.click("#cut-at-random")
+    same([browser.run(ids), text(browser, "said")], [[f"between-{position}" for position in (1, 9, 10, 63)], "Cut into 5 ranges."])
     for count, wanted in ((1, 1), (2, 2), (3, 3), (4, 4), (5, 4), (500, 4)):
         fill(browser, {"count": count})
         browser.click("#draw button")
-        same(browser.run(ranges), [wanted, wanted - 1], f"{count} chunks")
+        same([*browser.run(ranges), text(browser, "root-merged")], [wanted, wanted - 1, ""], f"{count} chunks")
+
+
+def ranges_show_the_nodes_that_they_keep(browser: Browser, folder: Path) -> None:
+    fill(browser, {"count": 500})
+    browser.click("#draw button")
+    script = """
+        const hashes = (level) => [...level.querySelectorAll(".node:not(.hidden)")].map((node) => node.title.split("\\n")[1]);
+        return [...document.querySelectorAll(".range")].map((card) => [...card.querySelectorAll(".levels > li")].map(hashes).reverse());
+    """
+    nodes, ends = [(m.random_from_seed(122 + k), 100 + 977 * k % 9901) for k in range(500)], [0, 125, 250, 375, 500]
+    for position in (250, 125, 375, None):
+        kept = (m.canon(nodes[start:end], start == 0, end == 500).levels for start, end in zip(ends, ends[1:]))
+        same(browser.run(script), [[[m.to_hex(hash_) for hash_, _ in left + right] for left, right in levels] for levels in kept], f"{ends}")
+        if position:
+            browser.click(f"#between-{position}")
+            ends.remove(position)
 
 
 def lists_may_have_cr_lf(browser: Browser, folder: Path) -> None:
@@ -114,18 +146,34 @@ def cuts_may_be_at_both_ends(browser: Browser, folder: Path) -> None:
         fill(browser, {"cuts": cuts})
         drop(browser, "thirty", bytes(range(30)))
         found = settled(browser, "files", lambda it: it[2] == "Done.")
-        same([row[1] for row in found[0]], [str(size) for size in sizes], cuts)
+        ends = [sum(sizes[: k + 1]) for k in range(len(sizes))]
+        chunks = [[f"thirty from {end - size}", str(size), m.to_hex(m.compute_data_hash(bytes(range(end - size, end))))] for size, end in zip(sizes, ends)]
+        same(found[0], chunks, cuts)
     # Other cuts are taken of the same file, once they are typed.
     browser.run("const it = document.getElementById('cuts'); it.value = '7'; it.dispatchEvent(new Event('change'))")
     settled(browser, "files", lambda it: [row[1] for row in it[0]] == ["7", "23"] and it[2] == "Done.")
+    browser.type("#chunks-of", "\n".join(file(folder, name, SMALL) for name in ("one", "two")))
+    said = "The cuts are those of one file: choose one, or leave the cuts empty."
+    same(settled(browser, "files", lambda it: it[-1] is not None)[0::4], [[], said])
 
 
 def files_are_cut_as_xet_does(browser: Browser, folder: Path) -> None:
     browser.click("#tab-files")
     datas = {"mixed": chunker.mixed(200_000), "zeros": bytes(131_073)}
+    saying = """
+        window.said = [];
+        const [text, bar] = ["progress-said", "progress"].map((id) => document.getElementById(id));
+        new MutationObserver(() => said.push([text.textContent, Number(bar.value.toFixed(9))])).observe(text, { childList: true });
+    """
+    browser.run(saying)
     browser.type("#chunks-of", "\n".join(file(folder, name, data) for name, data in datas.items()))
     wanted = [[name, str(len(data)), str(len(chunker.cuts(data))), m.to_hex(chunker.file_hash(data))] for name, data in datas.items()]
     same(settled(browser, "files", lambda it: it[2] == "Done.")[:2], [wanted, None])
+    # The last chunk has one byte, of which nothing is said.
+    total = sum(len(data) for data in datas.values())
+    passed = [*chunker.cuts(datas["mixed"]), len(datas["mixed"]) + chunker.cuts(datas["zeros"])[0]]
+    said = [["Working.", 0], *([f"{int(100 * (count / total))} %", round(count / total, 9)] for count in passed), ["Done.", 1]]
+    same(browser.run("return window.said"), said)
 
 
 def a_part_may_end_beyond_the_file(browser: Browser, folder: Path) -> None:
@@ -133,10 +181,20 @@ def a_part_may_end_beyond_the_file(browser: Browser, folder: Path) -> None:
     browser.type("#part-of", file(folder, "part", bytes(3000)))
     # These bytes were asked for of a longer file.
     same(settled(browser, "parts", lambda it: it[1] == "3000 bytes in 6 chunks")[3], "Accepted: these are bytes 0 to 99 of a file of 3000 bytes.")
-    for first, last, shown in ((2999, 5000, (2999, 2999)), (0, 10**9, (0, 2999)), (1400, 1600, (1400, 1600))):
+    same(browser.run("return ['from', 'to'].map((id) => document.getElementById(id).max)"), ["2999", "2999"])
+    nodes = [(m.compute_data_hash(bytes(500)), 500)] * 6
+    for first, last, shown in ((2999, 5000, (2999, 2999)), (0, 10**9, (0, 2999)), (1400, 1600, (1400, 1600)), (1400, 1640, (1400, 1640))):
         fill(browser, {"from": first, "to": last})
         choose(browser, "nothing")
         same(text(browser, "part-verdict"), f"Accepted: these are bytes {shown[0]} to {shown[1]} of a file of 3000 bytes.")
+        count = shown[1] + 1 - shown[0]
+        same(text(browser, "part-bytes"), "\0" * min(count, 240) + (f" and {count - 240} more" if count > 240 else ""))
+        chunks = r.chunks_at(nodes, shown[0], shown[1] + 1)
+        assert chunks
+        words = browser.run("return document.getElementById('path').getAttribute('aria-label')")
+        sides = [(str(len(left)), str(len(right))) for left, right in r.prove(nodes, *chunks).levels]
+        same(browser.run("return document.querySelectorAll('#path line').length - document.querySelectorAll('#path g').length"), -1, "each but the root has a parent")
+        same(re.findall(r"(\d+) on the left and (\d+) on the right", words), sides)
         choose(browser, "byte")
         same(text(browser, "part-verdict"), "Refused: 1 chunk of the data isn’t the file’s.")
         choose(browser, "node")
@@ -153,6 +211,9 @@ def there_are_limits(browser: Browser, folder: Path) -> None:
     browser.click("#tab-files")
     browser.type("#pairs-of", file(folder, "long", length=256 * 2**20 + 1))
     settled(browser, "files", lambda it: it[-1] == "The file has more than 268435456 bytes.")
+    # Space is read once, however much of it there is.
+    browser.type("#pairs-of", file(folder, "spaces", b"x" + b" " * 10**6 + b"x"))
+    settled(browser, "files", lambda it: (it[-1] or "").startswith("Line 1 is no pair"))
     browser.click("#tab-parts")
     browser.type("#part-of", file(folder, "longer", length=64 * 2**20 + 1))
     same(settled(browser, "parts", lambda it: it[-1] is not None)[-1], "The file has more than 67108864 bytes.")
@@ -202,8 +263,8 @@ def choices_of(folder: Path) -> Dict[str, Dict[str, Callable[[Browser], None]]]:
 ENDS: Dict[str, Dict[str, Callable[[List[Any]], bool]]] = {
     "files": {
         "a file": lambda it: it[2] == "Done." and it[0][0][0] == "small", "an empty file": lambda it: it[2] == "Done." and it[0][0][1] == "0",
-        "pairs": lambda it: it[2] == "Done." and it[1][0] == "12" and it[0] == [], "no pairs": lambda it: "Line 1 is no pair" in (it[-1] or ""),
-        "a drop": lambda it: it[2] == "Done." and it[0][0][0] == "dropped", "too long": lambda it: "268435456" in (it[-1] or ""),
+        "pairs": lambda it: it[2] == "Done." and it[1][0] == "12" and it[0] == [], "no pairs": lambda it: it[2] == "" and "Line 1 is no pair" in (it[-1] or ""),
+        "a drop": lambda it: it[2] == "Done." and it[0][0][0] == "dropped", "too long": lambda it: it[2] == "" and "268435456" in (it[-1] or ""),
     },
     "parts": {
         "a file": lambda it: it[1] == "7 bytes in 1 chunk", "an empty file": lambda it: it[1] == "0 bytes in 0 chunks",
@@ -273,6 +334,16 @@ def what_is_not_read_yet_shows_nothing(browser: Browser, folder: Path) -> None:
     same(settled(browser, "files", lambda it: it[2] == "Working.")[:2], [[], None])
 
 
+def what_is_not_chosen_shows_nothing(browser: Browser, folder: Path) -> None:
+    """A browser tells of a choice of no file, too."""
+    for tab, name, before in (("files", "chunks-of", "a file"), ("files", "pairs-of", "pairs"), ("parts", "part-of", "a file")):
+        browser.click(f"#tab-{tab}")
+        choices_of(folder)[tab][before](browser)
+        settled(browser, tab, ENDS[tab][before])
+        browser.run("const it = document.getElementById(arguments[0]); it.value = ''; it.dispatchEvent(new Event('change'))", name)
+        same(state(browser, tab), [[], None, "", [[], []], None] if tab == "files" else [*EMPTY_PART, [], None], name)
+
+
 def work_can_be_cancelled(browser: Browser, folder: Path) -> None:
     browser.click("#tab-files")
     for name in ("slow", "slow pairs", "slow drop"):
@@ -281,9 +352,78 @@ def work_can_be_cancelled(browser: Browser, folder: Path) -> None:
         browser.click("#cancel")
         same(state(browser, "files"), [[], None, "", [[], []], None], name)
         same(browser.run("return document.documentElement.dataset.workers"), "0", name)
+        # Other cuts are those of no file then.
+        browser.run("document.getElementById('cuts').dispatchEvent(new Event('change'))")
+        same(state(browser, "files")[2], "", name)
     browser.run("document.dispatchEvent(new Event('let-go'))")
     time.sleep(1)
     same(state(browser, "files"), [[], None, "", [[], []], None])
+
+
+def what_is_dropped_stays_on_the_page(browser: Browser, folder: Path) -> None:
+    """The browser doesn't open it, and what is no file ends nothing."""
+    browser.click("#tab-files")
+    drop(browser, "dropped", SMALL)
+    found = settled(browser, "files", lambda it: it[2] == "Done.")
+    script = """
+        const given = { dataTransfer: new DataTransfer(), bubbles: true, cancelable: true };
+        return document.getElementById("drop").dispatchEvent(new DragEvent(arguments[0], given));
+    """
+    over = "return document.getElementById('drop').classList.contains('over')"
+    for kind, is_over in (("dragenter", True), ("dragover", True), ("dragleave", False), ("dragover", True), ("drop", False)):
+        same([browser.run(script, kind), browser.run(over), state(browser, "files")], [False, is_over, found], kind)
+
+
+def a_worker_that_cant_run_is_told(browser: Browser, folder: Path) -> None:
+    browser.run("const Real = Worker; window.Worker = class extends Real { constructor() { super('no-such-file.js', { type: 'module' }); } }")
+    browser.click("#tab-files")
+    drop(browser, "dropped", SMALL)
+    same(settled(browser, "files", lambda it: it[-1] is not None), [[], None, "", [[], []], "The worker can't run."])
+
+
+def what_is_pressed_ends_what_plays(browser: Browser, folder: Path) -> None:
+    browser.run("window.setTimeout = (step) => void (window.step = step); window.clearTimeout = () => (window.step = null)")
+    browser.click("summary")
+    fill(browser, {"pairs": lines_of(LINES)})
+    playing = "return [Boolean(window.step), document.getElementById('play').textContent]"
+    for css in ("#play", "#between-1", "#draw button", "#cut-at-random", "#cut-again", "#paste button"):
+        browser.click("#play")
+        same(browser.run(playing), [True, "Stop"], css)
+        browser.click(css)
+        same(browser.run(playing), [False, "Play a random bracketing"], css)
+
+
+def another_root_is_told(browser: Browser, folder: Path) -> None:
+    browser.run("document.documentElement.dataset.lies = ''")
+    for position in (16, 32, 48):
+        browser.click(f"#between-{position}")
+    same([text(browser, "verdict"), browser.run("return document.getElementById('verdict').className")], ["Another root: this build is faulty.", "other"])
+
+
+def arrows_go_round_the_tabs(browser: Browser, folder: Path) -> None:
+    for key, tabs in (("x", ("ranges", "ranges")), ("\ue014", ("ranges", "files", "parts", "ranges")), ("\ue012", ("ranges", "parts", "files", "ranges"))):
+        for tab, wanted in zip(tabs, tabs[1:]):
+            browser.type(f"#tab-{tab}", key)
+            same(browser.run("return [document.activeElement.id, document.getElementById(arguments[0]).hidden]", wanted), [f"tab-{wanted}", False])
+            reached = "return [...document.querySelectorAll('[role=tab]')].filter((it) => it.tabIndex === 0).map((it) => it.id)"
+            same(browser.run(reached), [f"tab-{wanted}"])
+
+
+def the_page_asks_no_other_place(browser: Browser, folder: Path) -> None:
+    """What asks another place is refused by the policy, and so is a script that is written into the page."""
+    refused = """
+        window.done = { policy: [] };
+        document.addEventListener("securitypolicyviolation", (event) => window.done.policy.push(event.effectiveDirective));
+        fetch("http://127.0.0.1:9/").then(() => (window.done.fetch = "sent"), () => (window.done.fetch = "refused"));
+        new Image().src = "http://127.0.0.1:9/";
+        const script = document.createElement("script");
+        script.textContent = "window.done.script = 'ran'";
+        document.body.append(script);
+    """
+    browser.run(refused)
+    wait(browser, "window.done.fetch && window.done.policy.length === 3")
+    found = browser.run("return [window.done.fetch, window.done.script ?? null, window.done.policy.sort()]")
+    same(found, ["refused", None, ["connect-src", "img-src", "script-src-elem"]])
 
 
 def a_message_stays_on_its_tab(browser: Browser, folder: Path) -> None:
@@ -342,7 +482,9 @@ CASES: Dict[str, Callable[[Browser, Path], None]] = {
     for it in (
         each_control_is_used_by_a_test, a_list_can_be_merged_at_once, lists_may_have_cr_lf, cuts_may_be_at_both_ends, a_part_may_end_beyond_the_file, there_are_limits,
         choices_of_files_end_earlier_ones, choices_of_parts_end_earlier_ones, what_is_not_read_yet_shows_nothing, a_message_stays_on_its_tab,
-        nothing_lives_that_is_not_shown, work_can_be_cancelled, files_are_cut_as_xet_does,
+        nothing_lives_that_is_not_shown, work_can_be_cancelled, files_are_cut_as_xet_does, what_is_dropped_stays_on_the_page, a_worker_that_cant_run_is_told,
+        what_is_pressed_ends_what_plays, another_root_is_told, arrows_go_round_the_tabs, the_page_asks_no_other_place,
+        ranges_show_the_nodes_that_they_keep, what_is_not_chosen_shows_nothing,
     )
 }
 

@@ -19,7 +19,12 @@ WebAssembly.instantiate = async (...given) => {
     const { exports } = await instantiate(...given);
     const allocate = (size) => (count("blocks", 1), exports.allocate(size));
     const release = (block) => (count("blocks", -1), exports.release(block));
-    return { exports: { ...exports, allocate, release } };
+    const yurewha_subtree_final_hash = (subtree, out) => {
+        const status = exports.yurewha_subtree_final_hash(subtree, out);
+        if ("lies" in shown) new Uint8Array(exports.memory.buffer)[out] ^= 1;
+        return status;
+    };
+    return { exports: { ...exports, allocate, release, yurewha_subtree_final_hash } };
 };
 
 const { arrayBuffer } = Blob.prototype;

@@ -4,6 +4,7 @@ import assert from "node:assert/strict";
 import { setTimeout } from "node:timers/promises";
 import * as errors from "../yurewha/index.js";
 import { AREA } from "../yurewha/library.js";
+import { Room } from "../yurewha/streams.js";
 import { BYTES, chunksOf, dataOf, test, wrapped } from "./support.js";
 
 const MAX = 2n ** 64n - 1n;
@@ -113,7 +114,7 @@ test("a stream takes chunks up to a limit, and keeps nothing of one that is long
         new errors.ProofMismatch(`by the proof, chunk ${chunk} of the range has ${length} bytes, more than chunkLimit, ${limit}`);
     const long = new Uint8Array((1 << 20) + 1).fill(7);
     for (const [length, options, limit] of [
-        [1 << 20, undefined, 1 << 20], [long.length, undefined, 1 << 20], [long.length, { chunkLimit: long.length }, long.length],
+        [1 << 20, undefined, 1 << 20], [1 << 20, {}, 1 << 20], [long.length, undefined, 1 << 20], [long.length, { chunkLimit: long.length }, long.length],
         [9, { chunkLimit: 9n }, 9], [10, { chunkLimit: 9n }, 9], [0, { chunkLimit: 0 }, 0],
     ]) {
         const whole = [data[0], long.subarray(0, length)];
@@ -130,6 +131,8 @@ test("a stream takes chunks up to a limit, and keeps nothing of one that is long
         const endless = new ReadableStream({ pull: (controller) => (sent++, controller.enqueue(new Uint8Array(1000))) }, { highWaterMark: 0 });
         await assert.rejects(new Response(endless.pipeThrough(range.checking())).arrayBuffer(), refused(0, BigInt(size), 1 << 20));
         assert.ok(sent < 5, `${sent} pieces were taken`);
+        const early = new errors.ProofMismatch("the data ends before chunk 0 of the range is whole");
+        assert.deepEqual(await passed(range, [data[0]], { chunkLimit: MAX }), [Buffer.alloc(0), early], "there is no room for what doesn't come");
     }
     for (const chunkLimit of [1.5, "1", null]) assert.throws(() => rangeOf(0, 1).checking({ chunkLimit }), TypeError);
     assert.throws(() => rangeOf(0, 1).checking({ chunkLimit: -1 }), RangeError);
@@ -156,6 +159,15 @@ test("a stream keeps no piece, however short it is", async () => {
     assert.ok(kept() <= 10, `${kept()} pieces are kept`);
     await writer.write(right.subarray(right.length - 1));
     assert.deepEqual((await first).value, right);
+});
+
+test("room for many short pieces is made a few times", () => {
+    const [room, memories] = [new Room(3_000_000), new Set()];
+    for (let left = 3000; left > 0; left--) {
+        assert.equal(room.add(new Uint8Array(1000)).length, 0);
+        memories.add(room.bytes.buffer);
+    }
+    assert.ok(room.isFull && memories.size < 10, `${memories.size} times`);
 });
 
 test("each of many chunks of a stream is checked", async () => {

@@ -85,6 +85,15 @@ test("each call takes each source, also one that uses its memory again", async (
     }
 });
 
+test("calls at once come to what each does alone", async () => {
+    const others = () => [...pieces()].map((piece) => piece.map((byte) => byte ^ 1));
+    for (const [name, [call, wanted]] of Object.entries(CALLS)) {
+        for (const [other, [its]] of Object.entries(CALLS)) {
+            assert.deepEqual((await Promise.all([call(pieces()), its(others())]))[0], wanted, `${name}, ${other}`);
+        }
+    }
+});
+
 test("each call says what it takes", async () => {
     const rule = "be a Blob, a stream, such as the body of a Response, or what gives Uint8Arrays";
     const wrong = new Map([

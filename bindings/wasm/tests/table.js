@@ -269,6 +269,7 @@ export function tableOf(y) {
                 read: (it) => [it.read(1, 2, bytes(it.numChunks + 1).subarray(1)), it.read(0, 1, bytes(1))],
                 readOrThrow: (it) => it.readOrThrow(1, 2, bytes(it.numChunks + 1).subarray(1)),
                 checking: (it) => new Blob([bytes(it.numChunks + 1).subarray(1)]).stream().pipeThrough(it.checking()),
+                "checking unread": (it) => void it.checking(),
                 "checking nothing": (it) => new Blob([]).stream().pipeThrough(it.checking()),
                 ...own,
             },

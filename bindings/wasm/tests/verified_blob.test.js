@@ -87,7 +87,7 @@ test("it reads what a Blob reads", async () => {
     for (const [given, wanted] of [[[NaN, 12], [0, 12]], [[null, 3], [0, 3]], [["3", "8"], [3, 8]]]) {
         assert.equal(await verified.slice(...given).text(), data.subarray(...wanted).toString());
     }
-    for (const type of ["", "Image/PNG", "ümlaut", "a\nb"]) assert.equal(verified.slice(0, 1, type).type, blob.slice(0, 1, type).type);
+    for (const type of [undefined, null, 5, "", "Image/PNG", "ümlaut", "a\nb"]) assert.equal(verified.slice(0, 1, type).type, blob.slice(0, 1, type).type);
     const text = Buffer.from("\uFEFFäöü");
     const leaf = y.dataHash(text);
     const single = y.HashTree.fromChunks([[leaf, text.length]]);
@@ -264,12 +264,13 @@ test("a stream passes on the pieces before a lie, and none after it", async () =
 });
 
 test("a server that sends too much, or ends too early, is left", async () => {
-    const endless = (response) => {
-        response.writeHead(206);
+    const endlessly = (status) => (response) => {
+        response.writeHead(status);
         const more = () => response.write(Buffer.alloc(100_000)) && setImmediate(more);
         response.on("drain", more);
         more();
     };
+    const [endless, failing] = [206, 404].map(endlessly);
     const dying = (response, start, end) => {
         response.writeHead(206, { "Content-Length": end - start });
         response.write(bytesOf(start, end - 1000), () => response.destroy());
@@ -281,6 +282,8 @@ test("a server that sends too much, or ends too early, is left", async () => {
         [{ data: dying }, TypeError],
         [{ data: (response) => response.end("short") }, new errors.ProofMismatch("the range has 30000 bytes, and the data 5")],
         [{ data: (response) => response.writeHead(204).end() }, new errors.ProofMismatch("the range has 30000 bytes, and the data 0")],
+        [{ data: failing }, /status 404$/],
+        [{ proof: failing }, /status 404$/],
         [{ data: (response) => response.writeHead(404).end("no") }, /^Error: http:\/\/127\.0\.0\.1:\d+\/data: status 404$/],
         [{ proof: (response) => response.writeHead(500).end("no") }, /^Error: http:\/\/127\.0\.0\.1:\d+\/proof\?start=0&stop=1: status 500$/],
         [{ proof: (response) => response.end("{") }, errors.InvalidText],
@@ -289,7 +292,7 @@ test("a server that sends too much, or ends too early, is left", async () => {
     for (const [answer, error] of answers) {
         const server = await served(answer);
         await assert.rejects(server.open(), error);
-        if (Object.values(answer)[0] === endless) await until(() => server.asked.closed);
+        if ([endless, failing].includes(Object.values(answer)[0])) await until(() => server.asked.closed);
     }
 });
 
@@ -429,6 +432,10 @@ test("a salted file and an empty file are read", async () => {
     salt.fill(0);
     assert.equal(await verified.slice(50_000, 50_003).text(), data.subarray(50_000, 50_003).toString());
     await assert.rejects(y.VerifiedBlob.open(tree.fileHash(kept), bytesOf, proofOf), errors.ProofMismatch);
+    // A hash may have a byte of the empty file's.
+    let seed = 0;
+    while (tree.fileHash(y.Hash.randomFromSeed(seed).bytes).bytes[0] !== 0) seed++;
+    assert.equal((await open({ salt: y.Hash.randomFromSeed(seed).bytes })).size, data.length);
     const never = () => assert.fail("nothing of an empty file is fetched");
     const empty = await y.VerifiedBlob.open(new y.Hash(), never, never);
     assert.deepEqual([empty.size, await empty.text(), (await empty.arrayBuffer()).byteLength], [0, "", 0]);
