@@ -193,6 +193,16 @@ func TestSumReadsToTheEnd(t *testing.T) {
 	expect(t, must(Sum(iotest.DataErrReader(bytes.NewReader(long)))), must(FileHash(chunksOf(long, endsOf(t, long, []int{len(long)})))))
 }
 
+// A reader that reads nothing, and never says why.
+type silent struct{}
+
+func (silent) Read([]byte) (int, error) { return 0, nil }
+
+func TestAReaderThatReadsNothingHasNoSum(t *testing.T) {
+	_, err := Sum(io.MultiReader(bytes.NewReader(mixed), silent{}))
+	expect(t, errors.Is(err, io.ErrNoProgress), true)
+}
+
 // What ends a reader in another way isn't the end of the file, as when a server cuts off a body.
 func TestAReaderThatFailsHasNoSum(t *testing.T) {
 	for _, failure := range []error{io.ErrUnexpectedEOF, io.ErrClosedPipe, fmt.Errorf("wrapped: %w", io.EOF)} {

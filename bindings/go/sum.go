@@ -56,12 +56,18 @@ func sumOf(reader io.Reader) (sum Hash, size uint64, err error) {
 }
 
 // Reads until the buffer is full. Unlike with io.ReadFull, the end is io.EOF alone: a body that a server cut off ends with
-// io.ErrUnexpectedEOF.
+// io.ErrUnexpectedEOF. A reader that reads nothing again and again is an io.ErrNoProgress, as in bufio.
 func fill(buffer []byte, reader io.Reader) (count int, err error) {
-	for count < len(buffer) && err == nil {
+	const mostEmpty = 100
+	for empty := 0; count < len(buffer) && err == nil; {
 		var more int
 		more, err = reader.Read(buffer[count:])
 		count += more
+		if empty++; more > 0 {
+			empty = 0
+		} else if err == nil && empty == mostEmpty {
+			err = io.ErrNoProgress
+		}
 	}
 	return
 }

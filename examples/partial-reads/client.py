@@ -71,7 +71,7 @@ def main(url: str, file_hash: str, start: str, stop: str) -> int:
         part, size = read(remote, Hash.from_hex(file_hash), int(start), int(stop))
         sys.stdout.buffer.write(part)
         sys.stdout.buffer.flush()
-    except (YurewhaError, OSError) as error:  # an error of a server is an OSError, too
+    except (YurewhaError, OSError, ValueError) as error:  # an error of a server is an OSError; a START that is no number is a ValueError
         print(f"refused: {error}", file=sys.stderr)
         return 1
     fetched = f"{remote.data_bytes:,} bytes and {remote.proof_bytes:,} of proofs were fetched"
