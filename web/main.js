@@ -23,7 +23,7 @@ const reporting = (panel) => (run) => {
     try {
         run();
     } catch ({ message }) {
-        messages.set(panel, `${message[0].toUpperCase()}${message.slice(1)}.`);
+        messages.set(panel, `${message.slice(0, 1).toUpperCase()}${message.slice(1)}.`);
     }
     showMessage();
     return !messages.has(panel);

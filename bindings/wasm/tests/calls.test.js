@@ -834,7 +834,10 @@ test("load fetches a module, but not out of a response of failure", async () => 
     const address = `http://127.0.0.1:${server.address().port}`;
     try {
         assert.equal((await errors.load(`${address}/found`)).dataHash(bytesOf(9)).hex(), y.dataHash(bytesOf(9)).hex());
-        await assert.rejects(errors.load(`${address}/lost`), { message: `${address}/lost: status 404` });
+        for (const lost of [`${address}/lost`, fetch(`${address}/lost`)]) {
+            await assert.rejects(errors.load(lost), { message: `${address}/lost: status 404` });
+        }
+        await assert.rejects(errors.load(new Response(BYTES, { status: 500 })), { message: "a response: status 500" });
     } finally {
         server.close();
         server.closeAllConnections();

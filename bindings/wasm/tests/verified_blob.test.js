@@ -121,8 +121,10 @@ test("it fetches by ranges of bytes, of whole chunks and no more", async () => {
     assert.equal(await verified.slice(30_005, 30_010).text(), data.subarray(30_005, 30_010).toString());
     assert.deepEqual(server.asked.ranges, ["bytes=0-29999", "bytes=30001-90000"]);
     assert.ok(Buffer.from(await verified.arrayBuffer()).equals(data));
-    const its = await y.VerifiedBlob.open(tree.fileHash(), new URL(`${server.address}/data`), proofOf);
-    assert.equal(await its.slice(7, 9).text(), data.subarray(7, 9).toString());
+    const address = new URL(`${server.address}/data`);
+    const its = await y.VerifiedBlob.open(tree.fileHash(), address, proofOf);
+    address.port = 1;
+    assert.equal(await its.slice(30_007, 30_009).text(), data.subarray(30_007, 30_009).toString());
 });
 
 test("the page's example reads a part from a server", async () => {
@@ -224,7 +226,7 @@ test("proofs that were made of each piece answer each read", async () => {
         for (const [from, to] of [[0, 0], [5, 6], [69_999, 70_001], [(1 << 20) - 1, (1 << 20) + 1], [end - 3, end], [0, end], [end, end]]) {
             const read = await verified.slice(from, to).bytes();
             assert.ok(Buffer.from(read).equals(data.subarray(from, to)), `${piece} ${from} ${to}`);
-            assert.equal(read.buffer.byteLength, to - from, "the memory is the reader's own");
+            for await (const part of verified.slice(from, to).stream()) assert.equal(part.buffer.byteLength, part.length, "it keeps no more");
         }
         const whole = (start) => Math.min(start + length, Number.MAX_SAFE_INTEGER);
         assert.ok(asked.every(([start, stop]) => start % length === 0 && [whole(start), end].includes(stop)), `${piece}: ${asked}`);

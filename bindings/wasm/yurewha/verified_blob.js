@@ -106,7 +106,8 @@ export function makeVerifiedBlob({ rawOf }, { RangeProof }, { Reader }) {
         static async open(fileHash, source, prove, { salt, type = "", cacheSize = CACHE_SIZE, chunkLimit = CHUNK_LIMIT, piece = 0 } = {}) {
             const hash = rawOf(fileHash, "a file hash");
             const isAddress = typeof source === "string" || source instanceof URL;
-            const fetch = isAddress ? byRange(source) : callable(source, "a source that is no address");
+            // A URL may be changed later.
+            const fetch = isAddress ? byRange(`${source}`) : callable(source, "a source that is no address");
             const [most, limit] = [u64(cacheSize, "a cache size"), u64(chunkLimit, "a chunk limit")];
             const length = u64(piece, "a piece");
             const proving = proofOf(callable(prove, "prove"));
