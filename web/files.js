@@ -1,6 +1,7 @@
 // The second tab: files are hashed in a worker.
 
-import { element } from "./picture.js";
+import { element, plural } from "./picture.js";
+import { strip } from "./strip.js";
 
 const get = (id) => document.getElementById(id);
 
@@ -16,7 +17,13 @@ function showRow(id, ...cells) {
 /** What is shown for each kind of message from the worker. */
 const RECEIVED = {
     progress: ({ share }) => showProgress(share, `${Math.floor(100 * share)} %`),
-    file: ({ name, size, count, hash }) => showRow("named", name, `${size}`, `${count}`, element("code", {}, hash)),
+    file({ name, size, sizes, isShared, hash }) {
+        const shared = sizes.filter((_, k) => isShared[k]);
+        const bytes = shared.reduce((sum, length) => sum + length, 0);
+        const said = get("named").rows.length > 0 ? `${plural(shared.length, "chunk")} of ${bytes} bytes` : "";
+        const picture = sizes.length > 0 ? strip(sizes, isShared) : "";
+        showRow("named", name, `${size}`, `${sizes.length}`, element("code", {}, hash), said, picture);
+    },
     chunk: ({ name, size, hash }) => showRow("hashed", name, `${size}`, element("code", {}, hash)),
     roots({ count, root, file }) {
         get("files-count").textContent = `${count}`;

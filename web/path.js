@@ -1,18 +1,12 @@
 // Draws the path from the chunks that were read to the root, as an SVG. The nodes of a level stand in a row, and the root is at the top.
 
-const SVG = "http://www.w3.org/2000/svg";
+import { shape } from "./shape.js";
+
 /** A node's box, from one box to the next, from one row to the next, and the room for the names of rows. */
 const [WIDTH, HEIGHT, STEP, ROW, NAME] = [48, 24, 56, 52, 88];
 /** Of more nodes on the path, only the first and the last are drawn, half as many each. */
 const MOST_ON_PATH = 8;
 const encoder = new TextEncoder();
-
-function shape(name, attributes, ...children) {
-    const made = document.createElementNS(SVG, name);
-    for (const [key, value] of Object.entries(attributes)) made.setAttribute(key, value);
-    made.append(...children);
-    return made;
-}
 
 /** The groups of a list: each ends at the first natural cut from its third node on, or at its ninth node. */
 function groupsOf(nodes) {

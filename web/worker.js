@@ -38,16 +38,21 @@ function progressOf(total) {
     };
 }
 
-/** Files, each of which is cut as Xet does. */
+/** Files, each of which is cut as Xet does, and compared with those before it. */
 async function hashFiles(yurewha, files) {
     const passed = progressOf(files.reduce((sum, file) => sum + file.size, 0));
+    const above = new yurewha.HashIndex();
     for (const file of files) {
         const chunks = [];
         for await (const chunk of yurewha.chunksOf(file)) {
             chunks.push(chunk);
             passed(chunk[1]);
         }
-        postMessage({ kind: "file", name: file.name, size: file.size, count: chunks.length, hash: yurewha.fileHash(chunks).hex() });
+        const hashes = chunks.map(([hash]) => hash);
+        const isShared = above.find(hashes).map((number) => number !== null);
+        above.insert(hashes, hashes.keys());
+        const sizes = chunks.map(([, size]) => size);
+        postMessage({ kind: "file", name: file.name, size: file.size, sizes, isShared, hash: yurewha.fileHash(chunks).hex() });
     }
     postMessage({ kind: "done" });
 }

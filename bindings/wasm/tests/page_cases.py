@@ -157,6 +157,48 @@ def cuts_may_be_at_both_ends(browser: Browser, folder: Path) -> None:
     same(settled(browser, "files", lambda it: it[-1] is not None)[0::4], [[], said])
 
 
+def chunks_of(data: bytes) -> List[bytes]:
+    ends = chunker.cuts(data)
+    return [data[start:end] for start, end in zip([0, *ends], ends)]
+
+
+def rows_of_files(datas: Dict[str, bytes]) -> List[List[str]]:
+    """What the table of files says of each, and of the chunks that those above it have. Its last cell is a picture."""
+    rows: List[List[str]] = []
+    above: List[bytes] = []
+    for name, data in datas.items():
+        chunks = chunks_of(data)
+        shared = [chunk for chunk in chunks if chunk in above]
+        said = f"{len(shared)} chunk{'s'[: len(shared) != 1]} of {sum(map(len, shared))} bytes" if rows else ""
+        rows.append([name, str(len(data)), str(len(chunks)), m.to_hex(chunker.file_hash(data)), said, ""])
+        above += chunks
+    return rows
+
+
+def versions_show_the_chunks_that_they_share(browser: Browser, folder: Path) -> None:
+    browser.click("#tab-files")
+    old = chunker.mixed(400_000)
+    # Short chunks, of which there are so many that the cuts aren't drawn.
+    short = bytes([0, 148, 143]) * 290_000
+    new = old[:200_000] + b"inserted" + old[200_000:]
+    datas = {"old": old, "new": new, "same": new, "long": old[-100_000:] + short}
+    browser.type("#chunks-of", "\n".join(file(folder, name, data) for name, data in datas.items()))
+    same(settled(browser, "files", lambda it: it[2] == "Done.")[0], rows_of_files(datas))
+    strips = "return [...document.querySelectorAll('#named .strip')].map((it) => [it.ariaLabel, ...[...it.children].map((path) => path.getAttribute('d'))])"
+    above: List[bytes] = []
+    for data, (label, dark, cuts) in zip(datas.values(), browser.run(strips)):
+        chunks = chunks_of(data)
+        same(label, f"{len(chunks)} chunks, of which the files above have {sum(chunk in above for chunk in chunks)}")
+        places = [300 * end / len(data) for end in chunker.cuts(data)[:-1]] if len(chunks) < 102 else []
+        same([round(float(it), 6) for it in re.findall(r"M([\d.]+) 0v12", cuts)], [round(place, 6) for place in places])
+        marks = b"".join(bytes([chunk in above]) * len(chunk) for chunk in chunks)
+        bounds = [len(data) * x // 300 for x in range(301)]
+        shares = [sum(marks[begin:end]) / max(end - begin, 1) for begin, end in zip(bounds, bounds[1:])]
+        drawn = {int(x): float(height) / 12 for x, height in re.findall(r"M(\d+) 12v-([\d.e-]+)h1V12z", dark)}
+        same([x for x in range(300) if abs(shares[x] - drawn.get(x, 0)) > 0.01], [])
+        above += chunks
+
+
 def files_are_cut_as_xet_does(browser: Browser, folder: Path) -> None:
     browser.click("#tab-files")
     datas = {"mixed": chunker.mixed(200_000), "zeros": bytes(131_073)}
@@ -167,8 +209,7 @@ def files_are_cut_as_xet_does(browser: Browser, folder: Path) -> None:
     """
     browser.run(saying)
     browser.type("#chunks-of", "\n".join(file(folder, name, data) for name, data in datas.items()))
-    wanted = [[name, str(len(data)), str(len(chunker.cuts(data))), m.to_hex(chunker.file_hash(data))] for name, data in datas.items()]
-    same(settled(browser, "files", lambda it: it[2] == "Done.")[:2], [wanted, None])
+    same(settled(browser, "files", lambda it: it[2] == "Done.")[:2], [rows_of_files(datas), None])
     # The last chunk has one byte, of which nothing is said.
     total = sum(len(data) for data in datas.values())
     passed = [*chunker.cuts(datas["mixed"]), len(datas["mixed"]) + chunker.cuts(datas["zeros"])[0]]
@@ -482,7 +523,7 @@ CASES: Dict[str, Callable[[Browser, Path], None]] = {
     for it in (
         each_control_is_used_by_a_test, a_list_can_be_merged_at_once, lists_may_have_cr_lf, cuts_may_be_at_both_ends, a_part_may_end_beyond_the_file, there_are_limits,
         choices_of_files_end_earlier_ones, choices_of_parts_end_earlier_ones, what_is_not_read_yet_shows_nothing, a_message_stays_on_its_tab,
-        nothing_lives_that_is_not_shown, work_can_be_cancelled, files_are_cut_as_xet_does, what_is_dropped_stays_on_the_page, a_worker_that_cant_run_is_told,
+        nothing_lives_that_is_not_shown, work_can_be_cancelled, files_are_cut_as_xet_does, versions_show_the_chunks_that_they_share, what_is_dropped_stays_on_the_page, a_worker_that_cant_run_is_told,
         what_is_pressed_ends_what_plays, another_root_is_told, arrows_go_round_the_tabs, the_page_asks_no_other_place,
         ranges_show_the_nodes_that_they_keep, what_is_not_chosen_shows_nothing,
     )

@@ -123,7 +123,7 @@ def hash_files(browser: Browser, folder: Path, photo: Callable[[str], None]) -> 
     browser.type("#chunks-of", "\n".join(str(folder / name) for name in datas))
     wait(browser, "document.getElementById('progress-said').textContent === 'Done.'")
     hashes = browser.run("return [...document.querySelectorAll('#named tr')].map((row) => [...row.cells].map((it) => it.textContent))")
-    same(hashes, [[name, str(len(data)), str(len(chunker.cuts(data))), m.to_hex(chunker.file_hash(data))] for name, data in datas.items()])
+    same(hashes, page_cases.rows_of_files(datas))
     same(browser.run("return [document.getElementById('hashed').rows.length, document.getElementById('files-roots').hidden]"), [0, True])
     same([text(browser, "progress-said"), browser.run("return document.getElementById('progress').value")], ["Done.", 1])
     photo("files")
