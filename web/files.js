@@ -20,7 +20,7 @@ const RECEIVED = {
     file({ name, size, sizes, isShared, hash }) {
         const shared = sizes.filter((_, k) => isShared[k]);
         const bytes = shared.reduce((sum, length) => sum + length, 0);
-        const said = get("named").rows.length > 0 ? `${plural(shared.length, "chunk")} of ${bytes} bytes` : "";
+        const said = shared.length > 0 ? `${plural(shared.length, "chunk")} of ${bytes} bytes` : "none";
         const picture = sizes.length > 0 ? strip(sizes, isShared) : "";
         showRow("named", name, `${size}`, `${sizes.length}`, element("code", {}, hash), said, picture);
     },

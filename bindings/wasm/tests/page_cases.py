@@ -169,7 +169,7 @@ def rows_of_files(datas: Dict[str, bytes]) -> List[List[str]]:
     for name, data in datas.items():
         chunks = chunks_of(data)
         shared = [chunk for chunk in chunks if chunk in above]
-        said = f"{len(shared)} chunk{'s'[: len(shared) != 1]} of {sum(map(len, shared))} bytes" if rows else ""
+        said = f"{len(shared)} chunk{'s'[: len(shared) != 1]} of {sum(map(len, shared))} bytes" if shared else "none"
         rows.append([name, str(len(data)), str(len(chunks)), m.to_hex(chunker.file_hash(data)), said, ""])
         above += chunks
     return rows
