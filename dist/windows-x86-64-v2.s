@@ -1,5 +1,5 @@
 /* Yurewha 1.1.0 for windows-x86-64-v2: the kernels of the proved library, as the toolchain compiles it. Made by dist/make, not by hand.
-   The sum of its sources: 3d03b8465500e3293ccecc55386d2739e3473d833605912729772b49225d9593 */
+   The sum of its sources: 619f36769a5431f9c4d0aa8864d20d142ba29c28a2247fd1e9bf4b5b6a4d0f6d */
 	.section	.text
 	.p2align	4
 	.def	"keyed_blake3::keyed_hash";
