@@ -92,7 +92,7 @@ static yurewha_hash hashes[CHUNKS];
 /* All that is read of them. Each answer is copied here, so that two of them are compared by their bytes. */
 struct answers {
     yurewha_hash hashes[8];
-    uint64_t numbers[30];
+    uint64_t numbers[31];
     yurewha_hash known[CHUNKS], indexed[CHUNKS];
     uint64_t places[CHUNKS];
     yurewha_chunk nodes[CHUNKS + 1024];
@@ -257,6 +257,8 @@ static void read_reader(struct answers *to)
     EXPECT(yurewha_reader_needs(READER, FIRST, CHUNKS, 7, &to->numbers[25], &to->numbers[26]) == YUREWHA_DONE);
     EXPECT(to->numbers[25] == END && to->numbers[26] == END + 7);
     EXPECT(yurewha_reader_needs(READER, FIRST, END, 7, &to->numbers[27], &to->numbers[28]) == YUREWHA_ARGUMENTS);
+    EXPECT(yurewha_reader_piece(READER, CHUNKS - 1, 7, &to->numbers[29], &to->numbers[30]) == YUREWHA_DONE);
+    EXPECT(to->numbers[29] == (CHUNKS - 1) / 7 * 7 && to->numbers[30] == CHUNKS);
 }
 
 /* The answers to all questions, again and again. Returns the last ones. */
