@@ -93,11 +93,17 @@ fn what_is_read_is_the_file_s_and_what_is_kept_is_not_asked_for_again() {
 fn a_file_has_pieces() {
     let file = File::new();
     let (reader, size) = (file.reader(PLENTY), file.size());
-    assert_eq!(reader.piece_at(size, 100), Some(size / 100 * 100..size / 100 * 100 + 100));
+    assert_eq!(
+        reader.piece_at(size, 100),
+        Some(size / 100 * 100..size / 100 * 100 + 100)
+    );
     assert_eq!(reader.piece_at(u64::MAX - 1, u64::MAX), Some(0..u64::MAX));
     file.read(&reader, 0..1, PLENTY);
     assert_eq!(reader.piece_at(size - 1, 100), Some((size - 1) / 100 * 100..size));
-    assert_eq!([(size, 100), (0, 0)].map(|(place, piece)| reader.piece_at(place, piece)), [None, None]);
+    assert_eq!(
+        [(size, 100), (0, 0)].map(|(place, piece)| reader.piece_at(place, piece)),
+        [None, None]
+    );
 }
 
 #[test]
