@@ -197,7 +197,8 @@ def pieces(path: Path) -> dict[str, Piece]:
     data, found = path.read_bytes(), {}
     sections = elf(data) if data.startswith(b"\x7fELF") else macho(data)
     for section in sections:
-        section.pieces.sort()
+        # Of two labels at one place, the first one's piece is empty.
+        section.pieces.sort(key=lambda it: it[0])
     for section in sections:
         ends = [*(start for start, _, _ in section.pieces[1:]), len(section.contents)]
         references: dict[str, list[Reference]] = {}
