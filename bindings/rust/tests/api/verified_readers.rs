@@ -92,7 +92,7 @@ fn what_is_read_is_the_file_s_and_what_is_kept_is_not_asked_for_again() {
 #[test]
 fn a_file_has_pieces() {
     let file = File::new();
-    let (reader, size) = (file.reader(PLENTY), file.size());
+    let (reader, size) = (file.reader(PLENTY), file.tree.total_size());
     assert_eq!(
         reader.piece_at(size, 100),
         Some(size / 100 * 100..size / 100 * 100 + 100)
