@@ -15,7 +15,7 @@ use refusing_allocator::{Granted, RefusingAllocator};
 use std::alloc::Global;
 use std::collections::BTreeMap;
 use std::process::Abort;
-use subtree_sessions::session::Session;
+use upload_session::session::Session;
 use test_support::own_nodes;
 use test_support::texts::three_fields;
 use upload_session::kept_hashes::{KeptHashes, NoHashes, SeenHashes};

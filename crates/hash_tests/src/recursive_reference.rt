@@ -18,17 +18,19 @@ const KEYED_HASH: u32 = 16;
 // The bytes of the largest left half that there may be.
 const LARGEST_HALF: usize = 1 << 20;
 
+// Mixes four words of the state with a word of the message, which is a half of the function G (2.2).
+fn half_mixed(a: u32, b: u32, c: u32, d: u32, word: u32, first: u32, second: u32) -> [u32; 4] {
+    let a = a.wrapping_add(b).wrapping_add(word);
+    let d = (d ^ a).rotate_right(first);
+    let c = c.wrapping_add(d);
+    let b = (b ^ c).rotate_right(second);
+    [a, b, c, d]
+}
+
 // Mixes four words of the state with two words of the message (2.2).
 fn mixed(a: u32, b: u32, c: u32, d: u32, x: u32, y: u32) -> [u32; 4] {
-    let a = a.wrapping_add(b).wrapping_add(x);
-    let d = (d ^ a).rotate_right(16);
-    let c = c.wrapping_add(d);
-    let b = (b ^ c).rotate_right(12);
-    let a = a.wrapping_add(b).wrapping_add(y);
-    let d = (d ^ a).rotate_right(8);
-    let c = c.wrapping_add(d);
-    let b = (b ^ c).rotate_right(7);
-    [a, b, c, d]
+    let [a, b, c, d] = half_mixed(a, b, c, d, x, 16, 12);
+    half_mixed(a, b, c, d, y, 8, 7)
 }
 
 // Makes a round: the columns of the state, and then its diagonals (2.2).

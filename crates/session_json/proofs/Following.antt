@@ -8,7 +8,7 @@ use Rattle.std.specs.declared.alloc.Global.{Global}
 use Rattle.subtree_levels.specs.Levels.{levels_size}
 use Rattle.subtree_levels.specs.Subtree.{Subtree}
 use Rattle.upload_session.specs.Session.{PlacedRun, CanFollow, EndBefore}
-use Rattle.subtree_sessions.specs.Subtrees.{subtrees}
+use Rattle.upload_session.specs.Subtrees.{subtrees}
 use Rattle.session_json.specs.Reading.{size_of}
 use Rattle.session_json.specs.Steps.SavedRuns.{placed, all_placed}
 use Rattle.session_json.specs.declared.reading.SavedRun.{SavedRun}

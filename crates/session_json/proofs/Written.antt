@@ -22,7 +22,7 @@ use Rattle.xet_merkle.proofs.Levels.Flat.{levels_size-flat}
 use Rattle.upload_session.specs.Hashes.{Hash}
 use Rattle.upload_session.specs.Session.{Parts, PlacedRun, AreApart, CanFollow, EndBefore}
 use Rattle.upload_session.specs.declared.kept_hashes.SeenHashes.{SeenHashes}
-use Rattle.subtree_sessions.specs.Subtrees.{subtrees}
+use Rattle.upload_session.specs.Subtrees.{subtrees}
 use Rattle.session_json.specs.Reading.{size_of, CanFollowEach, IsStrictText, ReadsHash, ReadsRun, SaysSession}
 use Rattle.session_json.specs.SessionJson.{hash_json, run_json, session_json, IsSound, IsSoundRun, IsTextOf}
 use Rattle.session_json.proofs.ReadBack.{array_back, ascii_then, count_sum-levels, distinct, items_back, number_back, strict_text, subtree_back, AreReadAs, IsReadAs, IsReadBack}

@@ -16,7 +16,7 @@ use Rattle.xet_merkle.specs.JsonRules as subtree
 use Rattle.upload_session.specs.Hashes.{Hash, Knows}
 use Rattle.upload_session.specs.Session.{Parts, PlacedRun, size_of_runs, CanFollow}
 use Rattle.upload_session.specs.declared.kept_hashes.SeenHashes.{SeenHashes}
-use Rattle.subtree_sessions.specs.Subtrees.{subtrees}
+use Rattle.upload_session.specs.Subtrees.{subtrees}
 use Rattle.session_json.specs.declared.fault.SessionTextFault.{SessionTextFault}
 use Rattle.session_json.specs.declared.fault.SessionTextFault.TheVariants as faults
 

@@ -7,7 +7,7 @@ ghost use Rattle.std.specs.List.{AllZip};
 ghost use Rattle.std.specs.declared.alloc.Global.{Global};
 ghost use Rattle.upload_session.specs.Hashes.{hashes_of, Knows};
 ghost use Rattle.upload_session.specs.Session.{CanFollow, EndBefore};
-ghost use Rattle.subtree_sessions.specs.Subtrees.{subtrees};
+ghost use Rattle.upload_session.specs.Subtrees.{subtrees};
 ghost use Rattle.session_json.specs.Reading.{BreaksSubtreeOf, CanFollowEach, HasFault, IsRunValue, IsStrictText, ReadsLists, SaysSession, size_of};
 ghost use Rattle.session_json.specs.Steps.SavedRuns.{placed, all_placed, ReadsSaved};
 
@@ -15,7 +15,7 @@ use crate::fault::SessionTextFault;
 use crate::lists::{RunMembers, are_runs, read_hashes, read_lists, read_run, read_value};
 use serde_json::Value;
 use std::alloc::{AllocError, Global};
-use subtree_sessions::session::Session;
+use upload_session::session::Session;
 use xet_merkle::merkle_hash_subtree::MerkleHashSubtree;
 use xet_roots::CoreError;
 use xet_roots::aggregated_hashes::Node;

@@ -12,7 +12,7 @@ ghost use Rattle.session_json.specs.SessionJson.{hash_json, run_json, session_js
 use crate::pieces::{push_comma, push_number};
 use crate::subtree_text::push_subtree;
 use std::alloc::{AllocError, Global};
-use subtree_sessions::session::Session;
+use upload_session::session::Session;
 use xet_hash::data_hash::MerkleHash;
 use xet_merkle::merkle_hash_subtree::MerkleHashSubtree;
 

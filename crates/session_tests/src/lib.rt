@@ -7,6 +7,8 @@ mod drawn;
 #[cfg(test)]
 mod kept_hashes;
 #[cfg(test)]
+mod parts;
+#[cfg(test)]
 mod sessions;
 #[cfg(test)]
 mod texts;

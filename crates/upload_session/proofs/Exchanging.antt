@@ -95,7 +95,7 @@ apart_or first other chunks more some others free =
     let met = sym (overlaps-run other (length more) others first chunks some) ∙ free in
     grind (arith, met)
 
-exchange : (placed : List Placed) (first other : ℕ) (chunks more : List Node)
+pub exchange : (placed : List Placed) (first other : ℕ) (chunks more : List Node)
     → (first + length chunks ≤ other) ⊎ (other + length more ≤ first)
     → place (place placed first chunks) other more ≡ place (place placed other more) first chunks
 exchange placed first other chunks more (inl before) = commute placed first other chunks more before

@@ -24,7 +24,7 @@ neither-is a b first second = ap (λ x. x || b) first ∙ second
 
 module _ {C : Type 0} where
   module _ (position : ℕ) where
-    abbrev found : List (PlacedRun C) → PlacedRun C → Type 0
+    abbrev pub found : List (PlacedRun C) → PlacedRun C → Type 0
     found runs run = find (ends_after position) runs ≡ Some run
 
     -- the run that is found is the first one, or a later one if the first one ends before

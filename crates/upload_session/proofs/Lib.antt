@@ -2,12 +2,17 @@ pub mod AroundEntries
 pub mod Exchanging
 pub mod Gaps
 pub mod Hashes
+pub mod JoiningRuns
 pub mod Merging
 pub mod Neighbours
+pub mod OneState
 pub mod OpenRuns
 pub mod Placing
+pub mod PlacingEach
 pub mod Positions
+pub mod Ranges
 pub mod Refusals
+pub mod Restoring
 pub mod Sizes
 pub mod SortedEntries
 pub mod Whole

@@ -1,4 +1,4 @@
--- Merging the range of placed chunks with the ranges right before and right after it.
+-- Merging a placed range with the ranges right before and right after it.
 use Rattle.std.proofs.Common.{arith, nat_cmp, ◌≡◌, ◌+◌, ◌<◌, ℕ, false, List, [], ◌∷◌, ◌++◌, length, refl, sym, ap, subst, ◌∙◌}
 use Rattle.std.specs.Prelude.{All, Option, None, Some, option_map, option_to_list, unwrap_or}
 use Rattle.std.specs.BTreeMap.{insert_entry, is_at}
@@ -7,7 +7,6 @@ use Rattle.std.proofs.lemmas.List.{append-nil, append_assoc}
 use Rattle.std.proofs.lemmas.List.Elements.{All-nil, All-cons, All-head, All-tail}
 use Rattle.std.proofs.lemmas.List.Sums.{sum_by-cons}
 use Rattle.xet_roots.specs.Groups.{Node}
-use Rattle.xet_roots.specs.Roots.{total_size}
 use Rattle.chunk_ranges.specs.declared.chunk_range.ChunkRange as chunk_range
 use Rattle.upload_session.specs.declared.runs.Run.{Run}
 use Rattle.upload_session.specs.Session.{PlacedRun, end_of, first_of, size_of_runs, AreApart, AreOf}
@@ -41,7 +40,7 @@ module _ {C A : Type 0} (kind : chunk_range.Ghosts C A) where
   size-option None = refl
   size-option (Some run) = sym (size-one run)
 
-  module _ (first : ℕ) (chunks : List Node) (some : 0 < length chunks) (runs : List (PlacedRun C)) (at : Around first (first + length chunks) runs)
+  module _ (first count : ℕ) (given : C) (some : 0 < count) (runs : List (PlacedRun C)) (at : Around first (first + count) runs)
       (apart : AreApart runs) (opened : AreOpen kind runs) where
     sides : All IsOpen (with_run at.previous (with_run at.next at.back))
     sides = of-back IsOpen at.front (with_run at.previous (with_run at.next at.back))
@@ -59,35 +58,35 @@ module _ {C A : Type 0} (kind : chunk_range.Ghosts C A) where
         over None others all = all
         over (Some run) others all = All-tail IsOpen run others all
 
-    -- what is kept of the chunks and of the run after them
+    -- what is kept of the given range and of the run after it
     abbrev pub IsMade : Run C → Type 0
     IsMade made =
-        (made.end ≡ end_of at.next (first + length chunks))
-        × ((back : List Node) → AreOf kind at.next back → kind.stands made.range (chunks ++ back))
+        (made.end ≡ end_of at.next (first + count))
+        × ((chunks back : List Node) → kind.stands given chunks → AreOf kind at.next back → kind.stands made.range (chunks ++ back))
         × (kind.start made.range ≡ false) × (kind.end made.range ≡ false)
-        × (kind.total made.range ≡ total_size chunks + size_of_runs kind (option_to_list at.next))
+        × (kind.total made.range ≡ kind.total given + size_of_runs kind (option_to_list at.next))
 
-    pub made-with : (made : Run C) → IsWithNext kind runs (first + length chunks) chunks made
-        → kind.total made.range ≡ total_size chunks + size_at kind (first + length chunks) runs → IsMade made
+    pub made-with : (made : Run C) → IsWithNext kind runs (first + count) given made
+        → kind.total made.range ≡ kind.total given + size_at kind (first + count) runs → IsMade made
     made-with made is sum =
-        let after = first + length chunks in
+        let after = first + count in
         let next = lookup-next first after (omega (arith, some)) runs at in
-        let (ends, meant, opens, closes) = choose at.next refl (subst (λ (found : Option (Run C)). IsWith kind found after chunks made) next is) in
+        let (ends, meant, opens, closes) = choose at.next refl (subst (λ (found : Option (Run C)). IsWith kind found after given made) next is) in
         (ends, meant, opens, closes, omega (arith, sum, size-at kind after runs (option_map (λ (run : PlacedRun C). run.1) at.next) next, size-option at.next))
       where
-        choose : (next : Option (PlacedRun C)) → at.next ≡ next → IsWith kind (option_map (λ (run : PlacedRun C). run.1) next) (first + length chunks) chunks made
-            → (made.end ≡ end_of next (first + length chunks))
-            × ((back : List Node) → AreOf kind next back → kind.stands made.range (chunks ++ back))
+        choose : (next : Option (PlacedRun C)) → at.next ≡ next → IsWith kind (option_map (λ (run : PlacedRun C). run.1) next) (first + count) given made
+            → (made.end ≡ end_of next (first + count))
+            × ((chunks back : List Node) → kind.stands given chunks → AreOf kind next back → kind.stands made.range (chunks ++ back))
             × (kind.start made.range ≡ false) × (kind.end made.range ≡ false)
         choose None is (ends, meant, opens, closes) =
-            (ends, (λ back none. subst (λ (l : List Node). kind.stands made.range (chunks ++ l)) (sym none) (subst (kind.stands made.range) (sym (append-nil chunks)) meant)), opens, closes)
+            (ends, (λ chunks back stands none. subst (λ (l : List Node). kind.stands made.range (chunks ++ l)) (sym none) (subst (kind.stands made.range) (sym (append-nil chunks)) (meant chunks stands))), opens, closes)
         choose (Some run) is (ends, meant, opens, closes) = (ends, meant, opens, closes ∙ (next-open run is).1)
 
-    between-none : (made : Run C) → IsMade made → at.previous ≡ None → IsBetween kind first chunks at.previous at.next made.range
+    between-none : (made : Run C) → IsMade made → at.previous ≡ None → IsBetween kind first count given at.previous at.next made.range
     between-none made (ends, meant, opens, closes, sum) none = (
-      λ front back keeps. λ meant_back.
+      λ front chunks back keeps. λ stands meant_back.
           let nothing = subst (λ previous. AreOf kind previous front) none keeps in
-          subst (λ l. kind.stands made.range (l ++ (chunks ++ back))) (sym nothing) (meant back meant_back),
+          subst (λ l. kind.stands made.range (l ++ (chunks ++ back))) (sym nothing) (meant chunks back stands meant_back),
       opens,
       closes,
       omega (arith, sum, size-none at.previous none),
@@ -99,9 +98,9 @@ module _ {C A : Type 0} (kind : chunk_range.Ghosts C A) where
     between-some : (made : Run C) → IsMade made → (run : PlacedRun C) → at.previous ≡ Some run → (merged : C)
         → ((a b : List Node) → kind.stands run.1.range a → kind.stands made.range b → kind.stands merged (a ++ b))
         → kind.start merged ≡ kind.start run.1.range → kind.end merged ≡ kind.end made.range
-        → kind.total merged ≡ kind.total run.1.range + kind.total made.range → IsBetween kind first chunks at.previous at.next merged
+        → kind.total merged ≡ kind.total run.1.range + kind.total made.range → IsBetween kind first count given at.previous at.next merged
     between-some made (ends, meant, opens, closes, sum) run is merged merges starts finishes total = (
-      λ front back keeps. λ meant_back. merges front (chunks ++ back) (subst (λ previous. AreOf kind previous front) is keeps) (meant back meant_back),
+      λ front chunks back keeps. λ stands meant_back. merges front (chunks ++ back) (subst (λ previous. AreOf kind previous front) is keeps) (meant chunks back stands meant_back),
       starts ∙ (previous-open run is).0,
       finishes ∙ closes,
       omega (arith, sum, total, ap (λ run. size_of_runs kind (option_to_list run)) is, size-one run),
@@ -109,24 +108,24 @@ module _ {C A : Type 0} (kind : chunk_range.Ghosts C A) where
 
     -- the runs around, and the run of the chunks between them
     abbrev around_run : C → List (PlacedRun C)
-    around_run range = at.front ++ (first_of at.previous first, run_to (end_of at.next (first + length chunks)) range) ∷ at.back
+    around_run range = at.front ++ (first_of at.previous first, run_to (end_of at.next (first + count)) range) ∷ at.back
 
-    taken-in : (new : List (PlacedRun C)) (range : C) → new ≡ around_run range → IsBetween kind first chunks at.previous at.next range → TakeIn kind runs first chunks new
+    taken-in : (new : List (PlacedRun C)) (range : C) → new ≡ around_run range → IsBetween kind first count given at.previous at.next range → TakeIn kind runs first count given new
     taken-in new range is between =
-        subst (λ new. TakeIn kind runs first chunks new) (sym is) (
-          joined-around kind first chunks some runs at range between,
-          around-apart first (first + length chunks) (omega (arith, some)) range runs at apart,
-          placed-around kind first chunks some runs at range between,
+        subst (λ new. TakeIn kind runs first count given new) (sym is) (
+          joined-around kind first count given some runs at range between,
+          around-apart first (first + count) (omega (arith, some)) range runs at apart,
+          placed-around kind first count given some runs at range between,
         )
 
     -- the run is put in, and the one after it taken out
     pub placed-alone : (new : List (PlacedRun C)) (made : Run C) → IsMade made → at.previous ≡ None
-        → new ≡ remove_entry (is_at (nat_cmp (first + length chunks))) (insert_entry nat_cmp runs first made)
-        → TakeIn kind runs first chunks new
+        → new ≡ remove_entry (is_at (nat_cmp (first + count))) (insert_entry nat_cmp runs first made)
+        → TakeIn kind runs first count given new
     placed-alone new made of_made none is =
         let begins : first ≡ first_of at.previous first = ap (λ run. first_of run first) (sym none) in
         taken-in new made.range
-        (is ∙ inserted first (first + length chunks) (omega (arith, some)) runs at made none
+        (is ∙ inserted first (first + count) (omega (arith, some)) runs at made none
         ∙ ap (λ n. at.front ++ (n, made) ∷ at.back) begins
         ∙ ap (λ n. at.front ++ (first_of at.previous first, run_to n made.range) ∷ at.back) of_made.0)
         (between-none made of_made none)
@@ -136,32 +135,32 @@ module _ {C A : Type 0} (kind : chunk_range.Ghosts C A) where
         → ((a b : List Node) → kind.stands last.range a → kind.stands made.range b → kind.stands merged (a ++ b))
         → kind.start merged ≡ kind.start last.range → kind.end merged ≡ kind.end made.range
         → kind.total merged ≡ kind.total last.range + kind.total made.range
-        → new ≡ remove_entry (is_at (nat_cmp (first + length chunks))) (set_value (is_at (nat_cmp begin)) runs (run_to made.end merged))
-        → TakeIn kind runs first chunks new
+        → new ≡ remove_entry (is_at (nat_cmp (first + count))) (set_value (is_at (nat_cmp begin)) runs (run_to made.end merged))
+        → TakeIn kind runs first count given new
     placed-merged new made of_made begin last merged previous merges starts finishes total is =
         let begins : begin ≡ first_of at.previous first = ap (λ run. first_of run first) (sym previous) in
         taken-in new merged
-        (is ∙ replaced first (first + length chunks) (omega (arith, some)) runs at (begin, last) (run_to made.end merged) previous
+        (is ∙ replaced first (first + count) (omega (arith, some)) runs at (begin, last) (run_to made.end merged) previous
         ∙ ap (λ n. at.front ++ (n, run_to made.end merged) ∷ at.back) begins
         ∙ ap (λ n. at.front ++ (first_of at.previous first, run_to n merged) ∷ at.back) of_made.0)
         (between-some made of_made (begin, last) previous merged merges starts finishes total)
 
     -- the range is put before that of the run after, which begins where that before did, or where the chunks do
-    pub placed-before : (new : List (PlacedRun C)) (begin : ℕ) (last next : Run C) (front : C) → at.previous ≡ Some (begin, last) → at.next ≡ Some (first + length chunks, next)
-        → ((a : List Node) → kind.stands last.range a → kind.stands front (a ++ chunks)) → kind.start front ≡ false
-        → kind.total front ≡ kind.total last.range + total_size chunks
-        → IsPutBefore kind begin front next at.front at.back new → TakeIn kind runs first chunks new
+    pub placed-before : (new : List (PlacedRun C)) (begin : ℕ) (last next : Run C) (front : C) → at.previous ≡ Some (begin, last) → at.next ≡ Some (first + count, next)
+        → ((a chunks : List Node) → kind.stands last.range a → kind.stands given chunks → kind.stands front (a ++ chunks)) → kind.start front ≡ false
+        → kind.total front ≡ kind.total last.range + kind.total given
+        → IsPutBefore kind begin front next at.front at.back new → TakeIn kind runs first count given new
     placed-before new begin last next front previous next_is meant opens sum (range, is, merges, starts, finishes, total) =
         let begins : begin ≡ first_of at.previous first = ap (λ run. first_of run first) (sym previous) in
-        let ends : next.end ≡ end_of at.next (first + length chunks) = ap (λ run. end_of run (first + length chunks)) (sym next_is) in
+        let ends : next.end ≡ end_of at.next (first + count) = ap (λ run. end_of run (first + count)) (sym next_is) in
         taken-in new range
         (is ∙ ap (λ n. at.front ++ (n, run_to next.end range) ∷ at.back) begins
         ∙ ap (λ n. at.front ++ (first_of at.previous first, run_to n range) ∷ at.back) ends) (
-          λ a b keeps_a keeps_b.
+          λ a chunks b keeps_a stands keeps_b.
               subst (kind.stands range) (append_assoc a chunks b)
-              (merges (a ++ chunks) b (meant a (subst (λ run. AreOf kind run a) previous keeps_a)) (subst (λ run. AreOf kind run b) next_is keeps_b)),
+              (merges (a ++ chunks) b (meant a chunks (subst (λ run. AreOf kind run a) previous keeps_a) stands) (subst (λ run. AreOf kind run b) next_is keeps_b)),
           starts ∙ opens,
-          finishes ∙ (next-open (first + length chunks, next) next_is).1,
+          finishes ∙ (next-open (first + count, next) next_is).1,
           omega (
             arith,
             sum,
@@ -169,30 +168,30 @@ module _ {C A : Type 0} (kind : chunk_range.Ghosts C A) where
             ap (λ run. size_of_runs kind (option_to_list run)) previous,
             size-one (begin, last),
             ap (λ run. size_of_runs kind (option_to_list run)) next_is,
-            size-one (first + length chunks, next),
+            size-one (first + count, next),
           ),
         )
 
-    pub placed-first : (new : List (PlacedRun C)) (next : Run C) (front : C) → at.previous ≡ None → at.next ≡ Some (first + length chunks, next)
-        → kind.stands front chunks → kind.start front ≡ false → kind.total front ≡ total_size chunks
-        → IsPutBefore kind first front next at.front at.back new → TakeIn kind runs first chunks new
+    pub placed-first : (new : List (PlacedRun C)) (next : Run C) (front : C) → at.previous ≡ None → at.next ≡ Some (first + count, next)
+        → ((chunks : List Node) → kind.stands given chunks → kind.stands front chunks) → kind.start front ≡ false → kind.total front ≡ kind.total given
+        → IsPutBefore kind first front next at.front at.back new → TakeIn kind runs first count given new
     placed-first new next front previous next_is meant opens sum (range, is, merges, starts, finishes, total) =
         let begins : first ≡ first_of at.previous first = ap (λ run. first_of run first) (sym previous) in
-        let ends : next.end ≡ end_of at.next (first + length chunks) = ap (λ run. end_of run (first + length chunks)) (sym next_is) in
+        let ends : next.end ≡ end_of at.next (first + count) = ap (λ run. end_of run (first + count)) (sym next_is) in
         taken-in new range
         (is ∙ ap (λ n. at.front ++ (n, run_to next.end range) ∷ at.back) begins
         ∙ ap (λ n. at.front ++ (first_of at.previous first, run_to n range) ∷ at.back) ends) (
-          λ a b keeps_a keeps_b.
+          λ a chunks b keeps_a stands keeps_b.
               let nothing : a ≡ [] = subst (λ run. AreOf kind run a) previous keeps_a in
-              subst (λ (l : List Node). kind.stands range (l ++ (chunks ++ b))) (sym nothing) (merges chunks b meant (subst (λ run. AreOf kind run b) next_is keeps_b)),
+              subst (λ (l : List Node). kind.stands range (l ++ (chunks ++ b))) (sym nothing) (merges chunks b (meant chunks stands) (subst (λ run. AreOf kind run b) next_is keeps_b)),
           starts ∙ opens,
-          finishes ∙ (next-open (first + length chunks, next) next_is).1,
+          finishes ∙ (next-open (first + count, next) next_is).1,
           omega (
             arith,
             sum,
             total,
             ap (λ run. size_of_runs kind (option_to_list run)) previous,
             ap (λ run. size_of_runs kind (option_to_list run)) next_is,
-            size-one (first + length chunks, next),
+            size-one (first + count, next),
           ),
         )

@@ -5,10 +5,9 @@ use Rattle.std.specs.List.{list_any}
 use Rattle.std.proofs.lemmas.List.{length-append}
 use Rattle.std.proofs.lemmas.List.Elements.{All-nil, All-cons, All-head, All-tail, All-append, All-weaker}
 use Rattle.xet_roots.specs.Groups.{Node}
-use Rattle.xet_roots.specs.Roots.{total_size}
 use Rattle.chunk_ranges.specs.declared.chunk_range.ChunkRange as chunk_range
 use Rattle.upload_session.specs.declared.runs.Run.{Run}
-use Rattle.upload_session.specs.Session.{Placed, PlacedRun, placed_from, end_of, first_of, meet, meets, place, size_of_runs, AreApart, AreFrom, AreJoined, AreOf, IsRunOf, StandFor}
+use Rattle.upload_session.specs.Session.{Placed, PlacedRun, placed_from, end_of, first_of, meet, meets, place, size_of_runs, AreApart, AreFrom, AreOf, IsRangeJoined, IsRunOf, StandFor}
 use Rattle.upload_session.proofs.Placing.{placed_from-append, placed_from-from, placed_from-below, place-front, place-back, place-from}
 use Rattle.upload_session.proofs.Positions.{neither, holds_of_last}
 
@@ -288,61 +287,79 @@ module _ {C A : Type 0} (kind : chunk_range.Ghosts C A) where
           stand,
         )
 
-    -- the range of the run stands for the chunks between those that were there, and has the sizes of all
-    abbrev pub IsBetween : Option (PlacedRun C) → Option (PlacedRun C) → C → Type 0
-    IsBetween previous next range =
+    -- the range of the run stands for the chunks between those that were there
+    abbrev IsAmong : Option (PlacedRun C) → Option (PlacedRun C) → C → Type 0
+    IsAmong previous next range =
         ((front back : List Node) → AreOf kind previous front → AreOf kind next back → kind.stands range (front ++ (chunks ++ back)))
         × (kind.start range ≡ false) × (kind.end range ≡ false)
-        × (kind.total range ≡ size_of_runs kind (option_to_list previous) + total_size chunks + size_of_runs kind (option_to_list next))
 
     module _ (some : 0 < length chunks) where
       placed-between : (previous next : Option (PlacedRun C)) (runs : List (PlacedRun C)) (range : C) (others : List Placed)
           → IfSome previous (λ run. (run.0 < first) × (run.1.end ≡ first)) → IfSome next (λ run. run.0 ≡ first + length chunks)
-          → All (λ (run : PlacedRun C). first + length chunks < run.0) runs → IsBetween previous next range
+          → All (λ (run : PlacedRun C). first + length chunks < run.0) runs → IsAmong previous next range
           → Stand (with_run previous (with_run next runs)) others
           → Stand ((first_of previous first, run_to (end_of next (first + length chunks)) range) ∷ runs) (place others first chunks)
-      placed-between None None runs range others previous_ends next_begins backs (meant, open_start, open_end, _) stand =
+      placed-between None None runs range others previous_ends next_begins backs (meant, open_start, open_end) stand =
           let run : PlacedRun C = (first, run_to (first + length chunks) range) in
           placed-run [] [] others run runs (omega arith)
           (omega (arith, some, length-append chunks []), omega (arith, length-append chunks []), meant [] [] refl refl, open_start, open_end)
           (placed-from (first + length chunks + 1) runs others stand (All-weaker (λ (run : PlacedRun C). first + length chunks < run.0) (λ (run : PlacedRun C). first + length chunks + 1 ≤ run.0) (λ run h. omega (arith, h)) runs backs))
           stand
-      placed-between None (Some next) runs range others previous_ends there backs (meant, open_start, open_end, _) (back, rest, is, of_next, apart, stand) =
+      placed-between None (Some next) runs range others previous_ends there backs (meant, open_start, open_end) (back, rest, is, of_next, apart, stand) =
           let run : PlacedRun C = (first, run_to next.1.end range) in
           subst (λ l. Stand (run ∷ runs) (place l first chunks)) (sym (is ∙ ap (λ n. placed_from n back ++ rest) there))
           (placed-run [] back rest run runs (omega arith)
           (omega (arith, some, length-append chunks back), omega (arith, length-append chunks back, of_next.1, there), meant [] back refl of_next.2, open_start, open_end)
           apart stand)
-      placed-between (Some last) None runs range others (begun, ended) next_begins backs (meant, open_start, open_end, _) (front, rest, is, of_last, apart, stand) =
+      placed-between (Some last) None runs range others (begun, ended) next_begins backs (meant, open_start, open_end) (front, rest, is, of_last, apart, stand) =
           let run : PlacedRun C = (last.0, run_to (first + length chunks) range) in
           subst (λ l. Stand (run ∷ runs) (place l first chunks)) (sym is)
           (placed-run front [] rest run runs (omega (arith, of_last.1, ended))
           (omega (arith, some, length-append front (chunks ++ []), length-append chunks []), omega (arith, length-append front (chunks ++ []), length-append chunks [], of_last.1, ended), meant front [] of_last.2 refl, open_start, open_end)
           (placed-from (first + length chunks + 1) runs rest stand (All-weaker (λ (run : PlacedRun C). first + length chunks < run.0) (λ (run : PlacedRun C). first + length chunks + 1 ≤ run.0) (λ run h. omega (arith, h)) runs backs))
           stand)
-      placed-between (Some last) (Some next) runs range others (begun, ended) there backs (meant, open_start, open_end, _) (front, more, is, of_last, _, (back, rest, is_next, of_next, apart, stand)) =
+      placed-between (Some last) (Some next) runs range others (begun, ended) there backs (meant, open_start, open_end) (front, more, is, of_last, _, (back, rest, is_next, of_next, apart, stand)) =
           let run : PlacedRun C = (last.0, run_to next.1.end range) in
           subst (λ l. Stand (run ∷ runs) (place l first chunks)) (sym (is ∙ ap (λ l. placed_from last.0 front ++ l) (is_next ∙ ap (λ n. placed_from n back ++ rest) there)))
           (placed-run front back rest run runs (omega (arith, of_last.1, ended))
           (omega (arith, some, length-append front (chunks ++ back), length-append chunks back), omega (arith, length-append front (chunks ++ back), length-append chunks back, of_last.1, ended, of_next.1, there), meant front back of_last.2 of_next.2, open_start, open_end)
           apart stand)
 
-      pub placed-around : (runs : List (PlacedRun C)) (at : Around first (first + length chunks) runs) (range : C) → IsBetween at.previous at.next range
+      placed-all : (runs : List (PlacedRun C)) (at : Around first (first + length chunks) runs) (range : C) → IsAmong at.previous at.next range
           → (placed : List Placed) → Stand runs placed
           → Stand (at.front ++ (first_of at.previous first, run_to (end_of at.next (first + length chunks)) range) ∷ at.back) (place placed first chunks)
-      placed-around runs at range between placed stand =
+      placed-all runs at range among placed stand =
           placed-front at.front (with_run at.previous (with_run at.next at.back)) ((first_of at.previous first, run_to (end_of at.next (first + length chunks)) range) ∷ at.back) at.fronts
-          (λ others. placed-between at.previous at.next at.back range others at.previous_ends at.next_begins at.backs between)
+          (λ others. placed-between at.previous at.next at.back range others at.previous_ends at.next_begins at.backs among)
           placed (subst (λ l. Stand l placed) at.is stand)
 
-      pub joined-around : (runs : List (PlacedRun C)) (at : Around first (first + length chunks) runs) (range : C) → IsBetween at.previous at.next range
-          → AreJoined kind runs first chunks (at.front ++ (first_of at.previous first, run_to (end_of at.next (first + length chunks)) range) ∷ at.back)
+  module _ (first count : ℕ) (given : C) where
+    -- the range of the run stands for the chunks of the given one between those that were there, and has the sizes of all
+    abbrev pub IsBetween : Option (PlacedRun C) → Option (PlacedRun C) → C → Type 0
+    IsBetween previous next range =
+        ((front chunks back : List Node) → AreOf kind previous front → kind.stands given chunks → AreOf kind next back
+        → kind.stands range (front ++ (chunks ++ back)))
+        × (kind.start range ≡ false) × (kind.end range ≡ false)
+        × (kind.total range ≡ size_of_runs kind (option_to_list previous) + kind.total given + size_of_runs kind (option_to_list next))
+
+    module _ (some : 0 < count) where
+      pub placed-around : (runs : List (PlacedRun C)) (at : Around first (first + count) runs) (range : C) → IsBetween at.previous at.next range
+          → (chunks : List Node) (placed : List Placed) → length chunks ≡ count → kind.stands given chunks → Stand runs placed
+          → Stand (at.front ++ (first_of at.previous first, run_to (end_of at.next (first + count)) range) ∷ at.back) (place placed first chunks)
+      placed-around runs at range (meant, open_start, open_end, _) chunks placed long stands stand =
+          subst (λ n. (at : Around first (first + n) runs) → IsAmong first chunks at.previous at.next range
+          → Stand (at.front ++ (first_of at.previous first, run_to (end_of at.next (first + n)) range) ∷ at.back) (place placed first chunks)) long
+          (λ at among. placed-all first chunks (omega (arith, some, long)) runs at range among placed stand)
+          at ((λ front back keeps_front keeps_back. meant front chunks back keeps_front stands keeps_back), open_start, open_end)
+
+      pub joined-around : (runs : List (PlacedRun C)) (at : Around first (first + count) runs) (range : C) → IsBetween at.previous at.next range
+          → IsRangeJoined kind runs first count given (at.front ++ (first_of at.previous first, run_to (end_of at.next (first + count)) range) ∷ at.back)
       joined-around runs at range (meant, open_start, open_end, size) = record {
         front = at.front;
         previous = at.previous;
         next = at.next;
         back = at.back;
-        run = (first_of at.previous first, run_to (end_of at.next (first + length chunks)) range);
+        run = (first_of at.previous first, run_to (end_of at.next (first + count)) range);
         were = at.is
             ∙ ap (λ l. at.front ++ l) (with_run-list at.previous (with_run at.next at.back) ∙ ap (λ l. option_to_list at.previous ++ l) (with_run-list at.next at.back))
             ∙ sym (append_assoc at.front (option_to_list at.previous) (option_to_list at.next ++ at.back))
@@ -354,7 +371,7 @@ module _ {C A : Type 0} (kind : chunk_range.Ghosts C A) where
         back_begins = at.backs;
         begins = refl;
         ends = refl;
-        stands = λ a b front back. subst (kind.stands range) (sym (append_assoc a chunks b)) (meant a b front back);
+        stands = λ a chunks b front means back. subst (kind.stands range) (sym (append_assoc a chunks b)) (meant a chunks b front means back);
         no_start = open_start;
         no_end = open_end;
         size = size;

@@ -9,7 +9,7 @@ use Rattle.std.proofs.lemmas.List.Folds.{list_any-append}
 use Rattle.xet_roots.specs.Groups.{Node}
 use Rattle.xet_roots.specs.Roots.{total_size}
 use Rattle.upload_session.specs.Hashes.{Hash, hash_eq, hashes_of, is_among, AreBoth}
-use Rattle.upload_session.specs.Session.{Placed, placed_from, place, chunks_of, AreFrom}
+use Rattle.upload_session.specs.Session.{Placed, placed_from, place, chunks_of, AreFrom, Rises}
 
 -- each position is below a bound
 abbrev pub AreBelow : ℕ → List Placed → Type 0
@@ -176,10 +176,6 @@ place-hashes placed first chunks hash =
     (sym (among-placed (placed_from first chunks) hash) ∙ ap (λ l. is_among (hashes_of l) hash) (chunks-placed first chunks))
 
 -- no chunk changes nothing where positions rise
-abbrev pub Rises : List Placed → Type 0
-Rises [] = Unit {0}
-Rises (p ∷ placed) = AreFrom (p.0 + 1) placed × Rises placed
-
 pub place-none : (placed : List Placed) (first : ℕ) → Rises placed → place placed first [] ≡ placed
 place-none [] first rise = refl
 place-none (p ∷ placed) first (apart, rise) = choose (place-none placed first rise) (nat_lt p.0 first) refl

@@ -9,8 +9,8 @@ use Rattle.std.proofs.lemmas.List.Elements.{All-nil, All-cons, All-append, All-h
 use Rattle.std.proofs.lemmas.List.Folds.{list_any-append, list_any_none}
 use Rattle.xet_roots.specs.Groups.{Node}
 use Rattle.chunk_ranges.specs.declared.chunk_range.ChunkRange as chunk_range
-use Rattle.upload_session.specs.Session.{Placed, PlacedRun, placed_from, ends_after, is_taken, meet, meets, overlaps, AreApart, EndBefore, StandFor}
-use Rattle.upload_session.proofs.Placing.{Rises, rises-after}
+use Rattle.upload_session.specs.Session.{Placed, PlacedRun, placed_from, ends_after, is_taken, meet, meets, overlaps, AreApart, EndBefore, Rises, StandFor}
+use Rattle.upload_session.proofs.Placing.{rises-after}
 
 -- what holds of all holds of each
 pub holds_of_last : {X : Type 0} (P : X → Type 0) (front : List X) (last : X) (back : List X) → All P (front ++ last ∷ back) → P last
@@ -118,7 +118,7 @@ pub neither : (a b : Bool) → (a || b) ≡ false → (a ≡ false) × (b ≡ fa
 neither true b h = absurd (true≢false h)
 neither false b h = (refl, h)
 
-both : (a b : Bool) → a ≡ false → b ≡ false → (a || b) ≡ false
+pub both : (a b : Bool) → a ≡ false → b ≡ false → (a || b) ≡ false
 both a b first second = ap (λ x. x || b) first ∙ second
 
 begins_before : (first n : ℕ) → is_le (nat_cmp first n) ≡ false → n < first

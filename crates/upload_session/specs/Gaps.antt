@@ -1,5 +1,5 @@
 -- The positions that no run has.
-use Rattle.std.specs.Prelude.{◌≡◌, ℕ, ◌-◌, ◌<◌, ◌≤◌, ◌⊎◌, true, false, List, sum_by}
+use Rattle.std.specs.Prelude.{◌≡◌, ℕ, ◌+◌, ◌-◌, ◌<◌, ◌≤◌, ◌⊎◌, true, false, List, sum_by}
 use Rattle.upload_session.specs.Session.{PlacedRun, meet}
 
 -- how many positions runs have
@@ -12,6 +12,13 @@ AllTaken runs first end = (position : ℕ) → first ≤ position → position <
 
 abbrev pub AllFree : {C : Type 0} → List (PlacedRun C) → ℕ → ℕ → Type 0
 AllFree runs first end = (position : ℕ) → first ≤ position → position < end → meet runs position 1 ≡ false
+
+-- the first taken one of some adjacent positions
+pub record IsFirstTaken {C : Type 0} (runs : List (PlacedRun C)) (first count position : ℕ) : Type 0 where
+  pub from : first ≤ position
+  pub before : position < first + count
+  pub taken : meet runs position 1 ≡ true
+  pub free : AllFree runs first position
 
 -- the first gap from a position on and below a total: adjacent free positions, as many as there are
 pub record IsNextGap {C : Type 0} (runs : List (PlacedRun C)) (position total first end : ℕ) : Type 0 where

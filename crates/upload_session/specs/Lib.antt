@@ -3,3 +3,4 @@ pub mod Hashes
 pub mod Session
 pub mod Sizes
 pub mod Steps
+pub mod Subtrees

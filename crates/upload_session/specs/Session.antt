@@ -1,5 +1,5 @@
 -- Chunks by their positions, and the runs of a session that stand for them.
-use Rattle.std.specs.Prelude.{◌≡◌, ℕ, ◌+◌, ◌-◌, ◌<◌, ◌≤◌, Bool, false, not, List, [], ◌∷◌, ◌++◌, ◌&&◌, length, filter, map, replicate, sum_by, All, Option, None, Some, IfSome, option_to_list, nat_eq, nat_lt, slice_get}
+use Rattle.std.specs.Prelude.{◌≡◌, ℕ, ◌+◌, ◌-◌, ◌<◌, ◌≤◌, Bool, true, false, not, List, [], ◌∷◌, ◌++◌, ◌&&◌, ◌||◌, length, filter, map, replicate, sum_by, All, Option, None, Some, IfSome, option_to_list, nat_eq, nat_lt, slice_get}
 use Rattle.std.specs.List.{list_any}
 use Rattle.xet_roots.specs.Groups.{Node}
 use Rattle.xet_roots.specs.Roots.{total_size, salted_root, IsRoot, IsFileHash}
@@ -55,6 +55,20 @@ IsWhole total placed = (placed ≡ placed_from 0 (chunks_of placed)) × (length 
 abbrev pub AreFrom : ℕ → List Placed → Type 0
 AreFrom bound placed = All (λ p. bound ≤ p.0) placed
 
+-- each chunk is at a position after that of the one before it
+abbrev pub Rises : List Placed → Type 0
+Rises [] = Unit {0}
+Rises (p ∷ placed) = AreFrom (p.0 + 1) placed × Rises placed
+
+-- the placed chunks and others, each at its position
+abbrev pub place_each : List Placed → List Placed → List Placed
+place_each placed [] = placed
+place_each placed (p ∷ others) = place_each (place placed p.0 (p.1 ∷ [])) others
+
+-- no position of some chunks is taken by others
+abbrev pub AreDisjoint : List Placed → List Placed → Type 0
+AreDisjoint placed others = All (λ p. is_taken others p.0 ≡ false) placed
+
 -- a run of adjacent taken positions, with the first of them
 abbrev pub PlacedRun : Type 0 → Type 0
 PlacedRun C = ℕ × Run C
@@ -65,6 +79,19 @@ meets first count run = nat_lt first run.1.end && nat_lt run.0 (first + count)
 
 abbrev pub meet : {C : Type 0} → List (PlacedRun C) → ℕ → ℕ → Bool
 meet runs first count = list_any (meets first count) runs
+
+-- no run of some has a position that one of others has
+abbrev pub AreFree : {C : Type 0} → List (PlacedRun C) → List (PlacedRun C) → Type 0
+AreFree {C} runs others = All (λ (run : PlacedRun C). meet runs run.0 (run.1.end - run.0) ≡ false) others
+
+-- a position that a run of some has and a run of others
+abbrev pub AreBothAt : {C : Type 0} → List (PlacedRun C) → List (PlacedRun C) → ℕ → Type 0
+AreBothAt runs others position = (meet runs position 1 ≡ true) × (meet others position 1 ≡ true)
+
+-- runs have the positions of two lists of runs
+abbrev pub HaveBoth : {C : Type 0} → List (PlacedRun C) → List (PlacedRun C) → List (PlacedRun C) → Type 0
+HaveBoth first second all =
+    (position : ℕ) → meet all position 1 ≡ (meet first position 1 || meet second position 1)
 
 -- each run has a position, and a free position lies between two runs
 abbrev pub AreApart : {C : Type 0} → List (PlacedRun C) → Type 0
@@ -101,6 +128,10 @@ module _ {C A : Type 0} (kind : chunk_range.Ghosts C A) where
   CanFollow runs run =
       (run.0 < run.1.end) × (kind.start run.1.range ≡ false) × (kind.end run.1.range ≡ false) × EndBefore runs run.0
 
+  -- a range can be placed as that of some chunks: there is a chunk, and both ends are open
+  abbrev pub CanPlace : ℕ → C → Type 0
+  CanPlace count range = (0 < count) × (kind.start range ≡ false) × (kind.end range ≡ false)
+
   -- a run stands for chunks, at least one, by a range that is open at both ends
   abbrev pub IsRunOf : List Node → PlacedRun C → Type 0
   IsRunOf chunks run =
@@ -119,13 +150,19 @@ module _ {C A : Type 0} (kind : chunk_range.Ghosts C A) where
   AreOf None chunks = chunks ≡ []
   AreOf (Some run) chunks = kind.stands run.1.range chunks
 
+  -- chunks have one range under the same marks
+  abbrev pub HaveOneRange : Type 0
+  HaveOneRange = (a b : C) (chunks : List Node) → kind.stands a chunks → kind.stands b chunks
+      → kind.start a ≡ kind.start b → kind.end a ≡ kind.end b → a ≡ b
+
   -- the sum of the sizes of all runs
   abbrev pub size_of_runs : List (PlacedRun C) → ℕ
   size_of_runs runs = sum_by (λ run. kind.total run.1.range) runs
 
-  -- runs after chunks are placed at free positions from the first one on. The run that ends right before the chunks and
-  -- the one that begins right after them, if there are any, become one run with the chunks. The others stay.
-  pub record AreJoined (old : List (PlacedRun C)) (first : ℕ) (chunks : List Node) (new : List (PlacedRun C)) : Type 0 where
+  -- runs after as many chunks as a number says are placed at free positions from the first one on: a list of which a fact
+  -- holds, and whose sizes have a sum. The run that ends right before them and the one that begins right after them, if
+  -- there are any, become one run with them. The others stay.
+  pub record AreMerged (old : List (PlacedRun C)) (first count bytes : ℕ) (meant : List Node → Type 0) (new : List (PlacedRun C)) : Type 0 where
     pub front : List (PlacedRun C)
     pub previous : Option (PlacedRun C)
     pub next : Option (PlacedRun C)
@@ -135,16 +172,24 @@ module _ {C A : Type 0} (kind : chunk_range.Ghosts C A) where
     pub are : new ≡ front ++ run ∷ back
     pub front_ends : All (λ other. other.1.end < first) front
     pub previous_ends : IfSome previous (λ other. other.1.end ≡ first)
-    pub next_begins : IfSome next (λ other. other.0 ≡ first + length chunks)
-    pub back_begins : All (λ other. first + length chunks < other.0) back
+    pub next_begins : IfSome next (λ other. other.0 ≡ first + count)
+    pub back_begins : All (λ other. first + count < other.0) back
     pub begins : run.0 ≡ first_of previous first
-    pub ends : run.1.end ≡ end_of next (first + length chunks)
-    pub stands : (before after : List Node) → AreOf previous before → AreOf next after →
+    pub ends : run.1.end ≡ end_of next (first + count)
+    pub stands : (before chunks after : List Node) → AreOf previous before → meant chunks → AreOf next after →
         kind.stands run.1.range (before ++ chunks ++ after)
     pub no_start : kind.start run.1.range ≡ false
     pub no_end : kind.end run.1.range ≡ false
     pub size : kind.total run.1.range
-        ≡ size_of_runs (option_to_list previous) + total_size chunks + size_of_runs (option_to_list next)
+        ≡ size_of_runs (option_to_list previous) + bytes + size_of_runs (option_to_list next)
+
+  -- the same for these chunks
+  abbrev pub AreJoined : List (PlacedRun C) → ℕ → List Node → List (PlacedRun C) → Type 0
+  AreJoined old first chunks new = AreMerged old first (length chunks) (total_size chunks) (λ these. these ≡ chunks) new
+
+  -- and for a range of chunks
+  abbrev pub IsRangeJoined : List (PlacedRun C) → ℕ → ℕ → C → List (PlacedRun C) → Type 0
+  IsRangeJoined old first count range new = AreMerged old first count (kind.total range) (kind.stands range) new
 
 -- a session in contracts: its runs, what it keeps of hashes, and the sum of all sizes
 pub record Parts (C H : Type 0) : Type 0 where
@@ -168,6 +213,18 @@ module _ {C A : Type 0} (kind : chunk_range.Ghosts C A) where
   -- what a session stood for, and more chunks at adjacent positions, another stands for
   abbrev pub PlacesChunks : {H : Type 0} → Parts C H → ℕ → List Node → Parts C H → Type 0
   PlacesChunks old first chunks new = HoldsOfPlaced old (λ placed. StandFor kind new.runs (place placed first chunks))
+
+  -- if a range stands for as many chunks as was said, then a session stands for them too
+  abbrev pub PlacesRange : {H : Type 0} → Parts C H → ℕ → ℕ → C → Parts C H → Type 0
+  PlacesRange old first count range new =
+      (chunks : List Node) → length chunks ≡ count → kind.stands range chunks → PlacesChunks old first chunks new
+
+  -- if two lists of runs stand for chunks, then no position is taken by both, and runs stand for the chunks of both, each
+  -- at its position
+  abbrev pub StandForBoth : List (PlacedRun C) → List (PlacedRun C) → List (PlacedRun C) → Type 0
+  StandForBoth first second all =
+      (placed more : List Placed) → StandFor kind first placed → StandFor kind second more
+      → AreDisjoint placed more × StandFor kind all (place_each placed more)
 
   -- runs that are none or one have this root: that of no chunks, or of the chunks that the range stands for
   abbrev pub HaveRoot : List (PlacedRun C) → List ℕ → Type 0
@@ -199,11 +256,22 @@ module _ {H A : Type 0} (hashes : kept_hashes.Ghosts H A) where
   LearnsHashes old chunks new =
       (known all : List Hash) → hashes.knows old known → AreBoth known (hashes_of chunks) all → hashes.knows new all
 
+  -- what either knew is known
+  abbrev pub LearnsAll : H → H → H → Type 0
+  LearnsAll old other new =
+      (known more all : List Hash) → hashes.knows old known → hashes.knows other more → AreBoth known more all → hashes.knows new all
+
   -- a number counts the hashes of chunks that are reported as new
   abbrev pub CountsNew : H → List Node → ℕ → Type 0
   CountsNew old chunks count =
       (known : List Hash) → hashes.knows old known
       → (new : List Hash) × hashes.tells known (hashes_of chunks) new × (count ≡ length new)
+
+  -- the same of the hashes that another knows
+  abbrev pub CountsNewOf : H → H → ℕ → Type 0
+  CountsNewOf old other count =
+      (known more : List Hash) → hashes.knows old known → hashes.knows other more
+      → (new : List Hash) × hashes.tells known more new × (count ≡ length new)
 
   -- a session after a failed call: the same runs, the same size and the same known hashes
   abbrev pub IsUnchanged : {C : Type 0} → Parts C H → Parts C H → Type 0

@@ -1,5 +1,5 @@
 -- The size of a session, and those of the chunks that it stands for.
-use Rattle.std.specs.Prelude.{◌≡◌, ℕ, List}
+use Rattle.std.specs.Prelude.{◌≡◌, ℕ, List, length}
 use Rattle.xet_roots.specs.Groups.{Node}
 use Rattle.xet_roots.specs.Roots.{total_size}
 use Rattle.chunk_ranges.specs.declared.chunk_range.ChunkRange as chunk_range
@@ -18,3 +18,8 @@ module _ {C A : Type 0} (kind : chunk_range.Ghosts C A) where
   abbrev pub PlacesSizes : {H : Type 0} → Parts C H → ℕ → List Node → Parts C H → Type 0
   PlacesSizes old first chunks new =
       HoldsOfPlaced kind old (λ placed. HasSizeOf old placed → HasSizeOf new (place placed first chunks))
+
+  -- the same for a range
+  abbrev pub PlacesRangeSizes : {H : Type 0} → Parts C H → ℕ → ℕ → C → Parts C H → Type 0
+  PlacesRangeSizes old first count range new =
+      (chunks : List Node) → length chunks ≡ count → kind.stands range chunks → PlacesSizes old first chunks new

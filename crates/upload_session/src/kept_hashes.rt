@@ -33,6 +33,19 @@ pub trait KeptHashes<A: Allocator>: Drop {
         ensures refused { OnErr result ((known : List Hash) →
             knows self.old known → knows self.new known) };
 
+    /// Keeps the hashes that another one knows, too. Returns those that are new, each once, in a list that is allocated by
+    /// `alloc`, as are other lists during the call.
+    ///
+    /// Fails if an allocation fails. It then knows what it knew before.
+    fn keep_all(&mut self, alloc: A, other: &Self) -> Result<Vec<MerkleHash, A>, AllocError>
+        ensures new { IfOk result (λ new. (known more : List Hash) →
+            knows self.old known → knows other.now more → tells known more new.items) }
+        ensures others { OnOk result ((more : List Hash) × knows other.now more) }
+        ensures kept { OnOk result ((known more all : List Hash) →
+            knows self.old known → knows other.now more → AreBoth known more all → knows self.new all) }
+        ensures refused { OnErr result ((known : List Hash) →
+            knows self.old known → knows self.new known) };
+
     /// Forgets some hashes. If they are those that the last [`KeptHashes::keep`] reported as new, it then knows what it
     /// knew before that call. It allocates nothing.
     fn give_up(&mut self, new: &[MerkleHash])
@@ -151,6 +164,12 @@ impl<A: Allocator + Clone> KeptHashes<A> for SeenHashes<A> {
         }
     }
 
+    fn keep_all(&mut self, alloc: A, other: &Self) -> Result<Vec<MerkleHash, A>, AllocError> {
+        let hashes = other.to_vec(alloc.clone()?)?;
+        let chunks = with_no_sizes(alloc.clone()?, &hashes)?;
+        Ok(self.keep(alloc, &chunks)?)
+    }
+
     fn give_up(&mut self, new: &[MerkleHash]) {
         self.remove_all(new);
     }
@@ -173,5 +192,21 @@ impl<A: Allocator> KeptHashes<A> for NoHashes {
         Ok(Vec::new(alloc))
     }
 
+    fn keep_all(&mut self, alloc: A, _other: &Self) -> Result<Vec<MerkleHash, A>, AllocError> {
+        let none = Vec::new(alloc);
+        Ok(none)
+    }
+
     fn give_up(&mut self, _new: &[MerkleHash]) {}
+}
+
+// Makes chunks of size 0 with these hashes.
+fn with_no_sizes<A: Allocator>(alloc: A, hashes: &[MerkleHash]) -> Result<Vec<Node, A>, AllocError>
+    ensures { IfOk result (λ chunks. hashes_of chunks.items ≡ hashes.now) }
+{
+    let mut chunks = Vec::new(alloc);
+    'hashes: for hash in hashes {
+        chunks.push((*hash, 0))?;
+    }
+    Ok(chunks)
 }

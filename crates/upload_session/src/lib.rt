@@ -3,6 +3,8 @@
 
 pub mod kept_hashes;
 pub mod laws;
+pub mod range_fault;
 mod runs;
 pub mod session;
 pub mod session_fault;
+pub mod subtree_laws;

@@ -7,10 +7,10 @@ ghost use Rattle.std.specs.Map.{lookup};
 ghost use Rattle.upload_session.specs.declared.runs.Run.{Run};
 ghost use Rattle.xet_roots.specs.Groups.{Node};
 ghost use Rattle.xet_roots.specs.Roots.{total_size};
-ghost use Rattle.upload_session.specs.Steps.Neighbours.{IsPrevious, IsWithNext, AreAround, IsPutBefore, Places};
+ghost use Rattle.upload_session.specs.Steps.Neighbours.{IsPrevious, IsWithNext, AreAround, IsPutBefore, Places, TakeIn};
 ghost use Rattle.upload_session.specs.Steps.OpenRuns.{IsOpen, AreOpen, HaveRoom, HaveRoomFor, GrowBy, size_at, sizes_of};
-ghost use Rattle.upload_session.specs.Gaps.{num_positions, AllTaken, IsNextGap};
-ghost use Rattle.upload_session.specs.Session.{Placed, PlacedRun, ends_after, meet, place, AreApart, AreJoined, Cover, EndBefore, StandFor};
+ghost use Rattle.upload_session.specs.Gaps.{num_positions, AllTaken, IsFirstTaken, IsNextGap};
+ghost use Rattle.upload_session.specs.Session.{Placed, PlacedRun, ends_after, meet, place, size_of_runs, AreApart, AreBothAt, AreFree, AreJoined, Cover, EndBefore, HaveBoth, StandFor, StandForBoth};
 
 use crate::session_fault::SessionFault;
 use chunk_ranges::chunk_range::{ChunkRange, CopyableRange};
@@ -70,6 +70,62 @@ impl<C: CopyableRange> Runs<C> {
             alloc: self.alloc.clone()?,
         })
     }
+
+    /// Places copies of all runs of another. No position may be taken by both. One run is placed in place; for more, all
+    /// runs are copied first.
+    ///
+    /// Fails with [`CoreError::OutOfMemory`] if an allocation fails. After a failure nothing has changed.
+    pub fn join(&mut self, other: &Self) -> Result<(), CoreError>
+        requires apart { AreApart self.old }
+        requires others_apart { AreApart other.now }
+        requires open { AreOpen C.ChunkRange self.old }
+        requires others_open { AreOpen C.ChunkRange other.now }
+        requires room { size_of_runs C.ChunkRange self.old + size_of_runs C.ChunkRange other.now < 2 ^ 64 }
+        requires free { AreFree self.old other.now }
+        ensures placed { OnOk result (StandForBoth C.ChunkRange self.old other.now self.new) }
+        ensures taken { OnOk result (HaveBoth self.old other.now self.new) }
+        ensures apart { OnOk result (AreApart self.new) }
+        ensures open { OnOk result (AreOpen C.ChunkRange self.new) }
+        ensures sizes { OnOk result (size_of_runs C.ChunkRange self.new
+            ≡ size_of_runs C.ChunkRange self.old + size_of_runs C.ChunkRange other.now) }
+        ensures errors { IfErr result (λ e. e ≡ CoreError.OutOfMemory) }
+        ensures unchanged { OnErr result (self.new ≡ self.old) }
+    {
+        let Some((first, run)) = other.runs.first_key_value() else {
+            return Ok(());
+        };
+        if 1 < other.runs.len() {
+            *self = self.joined(other)?;
+            return Ok(());
+        }
+        let (first, end) = (*first, run.end);
+        self.place_range(first, end - first, run.range.try_clone()?)?;
+        Ok(())
+    }
+
+    // Returns the runs of both, with those joined that are adjacent. No position may be taken by both.
+    fn joined(&self, other: &Self) -> Result<Self, CoreError>
+        requires apart { AreApart self.now }
+        requires others_apart { AreApart other.now }
+        requires open { AreOpen C.ChunkRange self.now }
+        requires others_open { AreOpen C.ChunkRange other.now }
+        requires room { size_of_runs C.ChunkRange self.now + size_of_runs C.ChunkRange other.now < 2 ^ 64 }
+        requires free { AreFree self.now other.now }
+        ensures placed { IfOk result (StandForBoth C.ChunkRange self.now other.now) }
+        ensures taken { IfOk result (HaveBoth self.now other.now) }
+        ensures apart { IfOk result AreApart }
+        ensures open { IfOk result (AreOpen C.ChunkRange) }
+        ensures sizes { IfOk result (λ all. size_of_runs C.ChunkRange all
+            ≡ size_of_runs C.ChunkRange self.now + size_of_runs C.ChunkRange other.now) }
+        ensures errors { IfErr result (λ e. e ≡ CoreError.OutOfMemory) }
+    {
+        let mut all = self.try_clone()?;
+        'runs: for (first, run) in &other.runs {
+            let (first, end) = (*first, run.end);
+            all.place_range(first, end - first, run.range.try_clone()?)?;
+        }
+        Ok(all)
+    }
 }
 
 impl<C: ChunkRange> Runs<C> {
@@ -112,6 +168,43 @@ impl<C: ChunkRange> Runs<C> {
             Some((next, _)) => *next - first < count,
             None => false,
         }
+    }
+
+    /// Returns the first of `count` positions from `first` on that is taken. `count` must not be 0. It allocates nothing.
+    pub fn first_taken(&self, first: u64, count: u64) -> Option<u64>
+        requires some { 0 < count }
+        requires apart { AreApart self.now }
+        ensures some { IfSome result (λ position. IsFirstTaken self.now first count position) }
+        ensures none { IfNone result (meet self.now first count ≡ false) }
+    {
+        match self.run_from(first) {
+            Some((begin, _, _)) => {
+                if begin <= first {
+                    Some(first)
+                } else if begin - first < count {
+                    Some(begin)
+                } else {
+                    None
+                }
+            }
+            None => None,
+        }
+    }
+
+    /// Returns the first position that both have taken. It allocates nothing.
+    pub fn first_shared(&self, other: &Self) -> Option<u64>
+        requires apart { AreApart self.now }
+        requires others_apart { AreApart other.now }
+        ensures some { IfSome result (AreBothAt self.now other.now) }
+        ensures none { IfNone result (AreFree self.now other.now) }
+    {
+        'runs: for (first, run) in &other.runs {
+            let (first, end) = (*first, run.end);
+            if let Some(position) = self.first_taken(first, end - first) {
+                return Some(position);
+            }
+        }
+        None
     }
 
     /// Returns the number of runs. It allocates nothing.
@@ -239,9 +332,6 @@ impl<C: ChunkRange> Runs<C> {
 
     /// Places chunks, at least one, at adjacent positions that aren't taken. Fails with [`CoreError::OutOfMemory`] if
     /// an allocation fails. After a failure nothing has changed.
-    ///
-    /// If there is a run right before the chunks and one right after them, it changes the range that keeps more nodes
-    /// in place.
     pub fn place(&mut self, first: u64, chunks: &[Node]) -> Result<(), CoreError>
         requires positions { first + length chunks.now < 2 ^ 64 }
         requires some { 0 < length chunks.now }
@@ -256,8 +346,28 @@ impl<C: ChunkRange> Runs<C> {
         ensures errors { IfErr result (λ e. e ≡ CoreError.OutOfMemory) }
         ensures unchanged { OnErr result (self.new ≡ self.old) }
     {
-        let after = first + chunks.len() as u64;
         let made = C::from_chunks(self.alloc.clone()?, false, chunks, false)?;
+        self.place_range(first, chunks.len() as u64, made)?;
+        Ok(())
+    }
+
+    /// Places a range of `count` chunks, open at both ends, at adjacent positions that aren't taken. Fails with
+    /// [`CoreError::OutOfMemory`] if an allocation fails. After a failure nothing has changed.
+    ///
+    /// If there is a run right before the range and one right after it, it changes the range that keeps more nodes in
+    /// place.
+    pub fn place_range(&mut self, first: u64, count: u64, made: C) -> Result<(), CoreError>
+        requires positions { first + count < 2 ^ 64 }
+        requires some { 0 < count }
+        requires room { HaveRoomFor C.ChunkRange made self.old }
+        requires apart { AreApart self.old }
+        requires free { meet self.old first count ≡ false }
+        ensures taken { OnOk result (TakeIn C.ChunkRange self.old first count made self.new) }
+        ensures sizes { OnOk result (GrowBy C.ChunkRange (C.total made) self.old self.new) }
+        ensures errors { IfErr result (λ e. e ≡ CoreError.OutOfMemory) }
+        ensures unchanged { OnErr result (self.new ≡ self.old) }
+    {
+        let after = first + count;
         let previous = self.run_before(first);
         if self.next_stays(first, previous, &made, after) {
             self.place_before_next(first, previous, made, after)?;
@@ -428,8 +538,7 @@ impl<C: ChunkRange> Runs<C> {
         requires made { IsOpen C.ChunkRange made }
         requires room { AreOpen C.ChunkRange self.now
             × (C.total made + size_at C.ChunkRange after self.now < 2 ^ 64) }
-        ensures stands { IfOk result (λ run. (chunks : List Node) → C.stands made chunks →
-            C.start made ≡ false → C.end made ≡ false → IsWithNext C.ChunkRange self.now after chunks run) }
+        ensures stands { IfOk result (λ run. IsWithNext C.ChunkRange self.now after made run) }
         ensures marks { IfOk result (λ run. IsOpen C.ChunkRange run.range) }
         ensures total { IfOk result (λ run.
             C.total run.range ≡ C.total made + size_at C.ChunkRange after self.now) }

@@ -4,12 +4,13 @@ ghost use Rattle.std.specs.Prelude.{◌≡◌, ℕ, ◌+◌, ◌^◌, ◌<◌, �
 ghost use Rattle.xet_roots.specs.Groups.{Node};
 ghost use Rattle.xet_roots.specs.Roots.{total_size, IsRoot, IsFileHash};
 ghost use Rattle.std.specs.List.{IsDistinct};
-ghost use Rattle.upload_session.specs.Gaps.{num_positions, AllTaken, IsNextGap};
+ghost use Rattle.upload_session.specs.Gaps.{num_positions, AllTaken, IsFirstTaken, IsNextGap};
 ghost use Rattle.upload_session.specs.Hashes.{Hash, hash_eq, is_among, Knows};
-ghost use Rattle.upload_session.specs.Session.{PlacedRun, ends_after, meet, chunks_of, is_taken, overlaps, size_of_runs, with_last, AreApart, AreJoined, CanFollow, CountsNew, Cover, HasNothing, HaveFileHash, HaveRoot, HaveSaltedHash, HoldsOfPlaced, IsUnchanged, IsWhole, KeepsKnown, LearnsHashes, PlacesChunks};
-ghost use Rattle.upload_session.specs.Sizes.{HasSizeOf, HaveChunkSizes, PlacesSizes};
+ghost use Rattle.upload_session.specs.Session.{PlacedRun, ends_after, meet, chunks_of, is_taken, overlaps, size_of_runs, with_last, AreApart, AreBothAt, AreFree, AreJoined, CanFollow, CanPlace, CountsNew, CountsNewOf, Cover, HasNothing, HaveBoth, HaveFileHash, HaveRoot, HaveSaltedHash, HoldsOfPlaced, IsRangeJoined, IsUnchanged, IsWhole, KeepsKnown, LearnsAll, LearnsHashes, PlacesChunks, PlacesRange, StandForBoth};
+ghost use Rattle.upload_session.specs.Sizes.{HasSizeOf, HaveChunkSizes, PlacesRangeSizes, PlacesSizes};
 
 use crate::kept_hashes::{KeptHashes, SeenHashes};
+use crate::range_fault::RangeFault;
 use crate::runs::Runs;
 use crate::session_fault::SessionFault;
 use chunk_ranges::chunk_range::{ChunkRange, CopyableRange, hashes_of_open};
@@ -237,6 +238,61 @@ impl<C: ChunkRange, H: KeptHashes<C::Alloc>> SessionOf<C, H> {
         }
     }
 
+    /// Puts a range of `count` chunks, open at both ends, at the positions from `first` on, as [`SessionOf::put`] puts
+    /// chunks. The session doesn't learn the hashes of its chunks, so pass them to [`SessionOf::keep_hashes`].
+    ///
+    /// A range doesn't know how many chunks it has. If `range` doesn't stand for `count` chunks, all calls go by the
+    /// positions of the runs as ever, and the root and the file hash are those of the chunks of the ranges.
+    ///
+    /// Before it allocates, it fails with the first of these that applies:
+    ///
+    /// - [`RangeFault::Range`] if `count` is 0 or an end of the range is marked;
+    /// - [`RangeFault::Overlap`] if one of the positions is taken, with the first of them;
+    /// - [`RangeFault::Positions`] if `first` plus `count` is more than `u64::MAX`;
+    /// - [`RangeFault::Sizes`] if the sizes of all chunks add up to more than `u64::MAX` bytes.
+    ///
+    /// Otherwise fails with [`RangeFault::Memory`] if an allocation fails. After a failure the session is unchanged.
+    #[tactic(auto, using(crate::proofs::Ranges::not_first_taken))]
+    pub fn put_range(&mut self, first: u64, count: u64, range: C) -> Result<(), RangeFault>
+        ensures joined { OnOk result (IsRangeJoined C.ChunkRange self.old.runs first count range self.new.runs) }
+        ensures placed { OnOk result (PlacesRange C.ChunkRange self.old first count range self.new) }
+        ensures placed_size { OnOk result (PlacesRangeSizes C.ChunkRange self.old first count range self.new) }
+        ensures size { OnOk result (self.new.size ≡ self.old.size + C.total range) }
+        ensures kept { self.new.kept ≡ self.old.kept }
+        ensures range { IsErrOf result RangeFault.Range ↔ ¬ CanPlace C.ChunkRange count range }
+        ensures overlap { (position : ℕ) → IsErrOf result (RangeFault.Overlap position)
+            ↔ (CanPlace C.ChunkRange count range × IsFirstTaken self.old.runs first count position) }
+        ensures positions { IsErrOf result RangeFault.Positions
+            ↔ (CanPlace C.ChunkRange count range × (meet self.old.runs first count ≡ false)
+            × (2 ^ 64 ≤ first + count)) }
+        ensures sizes { IsErrOf result RangeFault.Sizes
+            ↔ (CanPlace C.ChunkRange count range × (meet self.old.runs first count ≡ false)
+            × (first + count < 2 ^ 64) × (2 ^ 64 ≤ self.old.size + C.total range)) }
+        ensures errors { IfErr result (λ e. (e ≡ RangeFault.Range)
+            ⊎ (((position : ℕ) × (e ≡ RangeFault.Overlap position))
+            ⊎ ((e ≡ RangeFault.Positions) ⊎ ((e ≡ RangeFault.Sizes) ⊎ (e ≡ RangeFault.Memory))))) }
+        ensures unchanged { OnErr result (self.new ≡ self.old) }
+    {
+        if count == 0 || range.at_start() || range.at_end() {
+            return Err(RangeFault::Range);
+        }
+        if let Some(position) = self.runs.first_taken(first, count) {
+            return Err(RangeFault::Overlap(position));
+        }
+        first.checked_add(count).ok_or(RangeFault::Positions)?;
+        let size = self
+            .size
+            .checked_add(range.total_size())
+            .ok_or(RangeFault::Sizes)?;
+        match self.runs.place_range(first, count, range) {
+            Ok(()) => {
+                self.size = size;
+                Ok(())
+            }
+            Err(error) => Err(RangeFault::from(out_of_memory(error))),
+        }
+    }
+
     /// Adds a run after all runs, as saved from another session. The session doesn't learn the hashes of its chunks, so
     /// pass them to [`SessionOf::keep_hashes`].
     ///
@@ -404,6 +460,57 @@ impl<C: ChunkRange> SessionOf<C> {
         ensures each_once { IfOk result (λ hashes. IsDistinct hash_eq hashes.items) }
     {
         self.kept.to_vec(self.runs.allocator().clone()?)
+    }
+}
+
+impl<C: CopyableRange, H: KeptHashes<C::Alloc>> SessionOf<C, H> {
+    /// Puts all runs of another session at their positions, and learns the hashes that it knows. Returns how many of these
+    /// are new, as [`SessionOf::put`] does. It doesn't matter which
+    /// of two sessions is put into the other, or of many which two come together first: the result stands for all their
+    /// chunks.
+    ///
+    /// Before it allocates, it fails with the first of these that applies:
+    ///
+    /// - [`RangeFault::Overlap`] if both have taken a position, with such a position;
+    /// - [`RangeFault::Sizes`] if the sizes of all chunks add up to more than `u64::MAX` bytes.
+    ///
+    /// Otherwise fails with [`RangeFault::Memory`] if an allocation fails. After a failure the session has the same
+    /// ranges, and knows the same hashes. A session of one run is put in place. For more runs it copies its runs before it
+    /// changes them, so the time is proportional to the nodes that both sessions keep.
+    #[tactic(auto, using(crate::proofs::JoiningRuns::not_free))]
+    pub fn join(&mut self, other: &Self) -> Result<u64, RangeFault>
+        ensures placed { OnOk result (StandForBoth C.ChunkRange self.old.runs other.now.runs self.new.runs) }
+        ensures taken { OnOk result (HaveBoth self.old.runs other.now.runs self.new.runs) }
+        ensures size { OnOk result (self.new.size ≡ self.old.size + other.now.size) }
+        ensures learned { OnOk result (LearnsAll H.KeptHashes self.old.kept other.now.kept self.new.kept) }
+        ensures new { IfOk result (CountsNewOf H.KeptHashes self.old.kept other.now.kept) }
+        ensures overlap { IfErr result (λ e. (position : ℕ) → e ≡ RangeFault.Overlap position →
+            AreBothAt self.old.runs other.now.runs position) }
+        ensures free { ((position : ℕ) → ¬ IsErrOf result (RangeFault.Overlap position)) →
+            AreFree self.old.runs other.now.runs }
+        ensures sizes { IsErrOf result RangeFault.Sizes
+            ↔ (AreFree self.old.runs other.now.runs × (2 ^ 64 ≤ self.old.size + other.now.size)) }
+        ensures errors { IfErr result (λ e. ((position : ℕ) × (e ≡ RangeFault.Overlap position))
+            ⊎ ((e ≡ RangeFault.Sizes) ⊎ (e ≡ RangeFault.Memory))) }
+        ensures unchanged { OnErr result (IsUnchanged H.KeptHashes self.old self.new) }
+    {
+        if let Some(position) = self.runs.first_shared(&other.runs) {
+            return Err(RangeFault::Overlap(position));
+        }
+        let size = self.size.checked_add(other.size).ok_or(RangeFault::Sizes)?;
+        let learned = self
+            .kept
+            .keep_all(self.runs.allocator().clone()?, &other.kept)?;
+        match self.runs.join(&other.runs) {
+            Ok(()) => {
+                self.size = size;
+                Ok(learned.len() as u64)
+            }
+            Err(error) => {
+                self.kept.give_up(&learned);
+                Err(RangeFault::from(out_of_memory(error)))
+            }
+        }
     }
 }
 

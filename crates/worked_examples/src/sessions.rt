@@ -5,7 +5,7 @@ use crate::told::told;
 use anyhow::{Context, Result, bail};
 use std::alloc::Global;
 use upload_session::session::SessionOf;
-use xet_merkle::chunk_range::ChunkRange;
+use xet_merkle::chunk_range::CopyableRange;
 use xet_merkle::merkle_hash_subtree::MerkleHashSubtree;
 use xet_merkle::plain_range::PlainRange;
 
@@ -20,7 +20,7 @@ pub fn answer(alloc: Global, name: &str, arguments: &str) -> Result<Option<Strin
 }
 
 // Returns what the calls of a new session return.
-fn answers<C: ChunkRange<Alloc = Global>>(alloc: Global, calls: &str) -> Result<String> {
+fn answers<C: CopyableRange<Alloc = Global>>(alloc: Global, calls: &str) -> Result<String> {
     let mut session: SessionOf<C> = SessionOf::new(alloc);
     let mut text = String::new(alloc);
     for call in calls.split(", ") {
@@ -33,7 +33,7 @@ fn answers<C: ChunkRange<Alloc = Global>>(alloc: Global, calls: &str) -> Result<
 }
 
 // Makes a call of a session, and returns what it returned.
-fn called<C: ChunkRange<Alloc = Global>>(
+fn called<C: CopyableRange<Alloc = Global>>(
     alloc: Global,
     session: &mut SessionOf<C>,
     call: &str,
@@ -41,6 +41,9 @@ fn called<C: ChunkRange<Alloc = Global>>(
     let (name, argument) = call.split_once(' ').context("no argument")?;
     let text = match name {
         "put" => put(alloc, session, argument)?,
+        "put_range" => put_range(alloc, session, false, argument)?,
+        "put_range_at_start" => put_range(alloc, session, true, argument)?,
+        "join" => join(alloc, session, argument)?,
         "finish" => told(alloc, session.finish(number(argument)?))?,
         "root" => told(alloc, session.root(number(argument)?))?,
         "taken" => session.taken(number(argument)?).to_string(alloc)?,
@@ -51,7 +54,7 @@ fn called<C: ChunkRange<Alloc = Global>>(
 }
 
 // Puts chunks at the positions from a first one on.
-fn put<C: ChunkRange<Alloc = Global>>(
+fn put<C: CopyableRange<Alloc = Global>>(
     alloc: Global,
     session: &mut SessionOf<C>,
     argument: &str,
@@ -60,8 +63,37 @@ fn put<C: ChunkRange<Alloc = Global>>(
     Ok(told(alloc, session.put(number(first)?, &list(alloc, chunks)?))?)
 }
 
+// Puts a range of chunks, which is said to be of a number of chunks, at the positions from a first one on.
+fn put_range<C: CopyableRange<Alloc = Global>>(
+    alloc: Global,
+    session: &mut SessionOf<C>,
+    at_start: bool,
+    argument: &str,
+) -> Result<String> {
+    let (first, counted) = argument.split_once(' ').context("no number")?;
+    let (count, chunks) = counted.split_once(' ').context("no chunks")?;
+    let range = C::from_chunks(alloc, at_start, &list(alloc, chunks)?, false)?;
+    Ok(
+        match session.put_range(number(first)?, number(count)?, range) {
+            Ok(()) => String::from_str(alloc, "put")?,
+            Err(fault) => format!(in alloc; "{fault:?}")?,
+        },
+    )
+}
+
+// Joins a session of chunks at the positions from a first one on.
+fn join<C: CopyableRange<Alloc = Global>>(
+    alloc: Global,
+    session: &mut SessionOf<C>,
+    argument: &str,
+) -> Result<String> {
+    let mut other = SessionOf::new(alloc);
+    put(alloc, &mut other, argument)?;
+    Ok(told(alloc, session.join(&other))?)
+}
+
 // Returns the first position of a run and the size of its range.
-fn range<C: ChunkRange<Alloc = Global>>(
+fn range<C: CopyableRange<Alloc = Global>>(
     alloc: Global,
     session: &SessionOf<C>,
     argument: &str,

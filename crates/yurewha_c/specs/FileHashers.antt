@@ -1,6 +1,6 @@
 -- Hashers of files that handles own.
 use Rattle.std.specs.Prelude.{ℕ, List}
-use Rattle.subtree_sessions.specs.Subtrees.{subtrees}
+use Rattle.upload_session.specs.Subtrees.{subtrees}
 use Rattle.std.specs.declared.alloc.Global.{Global}
 use Rattle.xet_file.specs.FileHasher.{Holds}
 use Rattle.yurewha_c.specs.declared.kept_file.KeptFile.{KeptFile}

@@ -6,6 +6,8 @@ use Rattle.range_proof.specs.declared.open_error.OpenFault.{OpenFault}
 use Rattle.range_proof.specs.declared.open_error.OpenFault.TheVariants as open_faults
 use Rattle.session_json.specs.declared.fault.SessionTextFault.{SessionTextFault}
 use Rattle.session_json.specs.declared.fault.SessionTextFault.TheVariants as text_faults
+use Rattle.upload_session.specs.declared.range_fault.RangeFault.{RangeFault}
+use Rattle.upload_session.specs.declared.range_fault.RangeFault.TheVariants as range_faults
 use Rattle.upload_session.specs.declared.session_fault.SessionFault.{SessionFault}
 use Rattle.upload_session.specs.declared.session_fault.SessionFault.TheVariants.{Overlap, Positions, Sizes, Memory, Gap}
 
@@ -39,6 +41,12 @@ elsewhere = 38
 abbrev pub too_far : ℕ
 too_far = 39
 
+abbrev pub session_overlap : ℕ
+session_overlap = 33
+
+abbrev pub session_positions : ℕ
+session_positions = 34
+
 abbrev pub session_gap : ℕ
 session_gap = 37
 
@@ -55,6 +63,13 @@ session_status Positions = 34
 session_status Sizes = 2
 session_status Memory = 3
 session_status Gap = 37
+
+abbrev pub range_status : RangeFault → ℕ
+range_status range_faults.Range = 1
+range_status (range_faults.Overlap position) = 33
+range_status range_faults.Positions = 34
+range_status range_faults.Sizes = 2
+range_status range_faults.Memory = 3
 
 -- the rules of a range proof have statuses of their own
 abbrev pub proof_status : CoreError → ℕ

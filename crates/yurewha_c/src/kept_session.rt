@@ -1,6 +1,6 @@
 //! The session that a handle owns.
 
-use subtree_sessions::session::Session;
+use upload_session::session::Session;
 
 // A session over subtrees, under a name without parameters.
 #[derive(Drop)]

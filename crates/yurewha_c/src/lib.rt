@@ -41,6 +41,7 @@ mod reader_handle;
 mod roots;
 mod session;
 mod session_handle;
+mod session_joining;
 mod session_runs;
 mod session_saving;
 mod session_state;

@@ -4,7 +4,7 @@ ghost use Rattle.std.specs.Prelude.{◌≡◌, ◌≢◌, ◌⊎◌, ◌↔◌, 
 ghost use Rattle.xet_merkle.specs.Roots.{IsRoot, IsFileHash, total_size};
 ghost use Rattle.upload_session.specs.Session.{place, chunks_of, is_taken, meet, overlaps, AreJoined, CountsNew, HasNothing, HaveFileHash, HaveRoot, IsUnchanged, LearnsHashes};
 ghost use Rattle.upload_session.specs.Hashes.{Knows};
-ghost use Rattle.subtree_sessions.specs.Subtrees.{subtrees};
+ghost use Rattle.upload_session.specs.Subtrees.{subtrees};
 ghost use Rattle.yurewha_c.specs.Chunks.{nodes_of};
 ghost use Rattle.yurewha_c.specs.Handles.{BothHold, IsCopyStatus, Reads};
 ghost use Rattle.yurewha_c.specs.Sessions.{seen_hashes, HoldsOfPlaced, IsWholeStatus, Stands};
@@ -64,7 +64,7 @@ pub extern "C" fn yurewha_session_new_without_hashes(
 }
 
 // Forgets the hashes of a session that keeps none.
-fn forget_unkept(alloc: Global, kept: &mut KeptSession)
+pub(crate) fn forget_unkept(alloc: Global, kept: &mut KeptSession)
     ensures unchanged { kept.old.keeps_hashes ≡ true → kept.new ≡ kept.old }
     ensures forgotten { kept.old.keeps_hashes ≡ false → Knows kept.new.session.kept [] }
     ensures runs { kept.new.session.runs ≡ kept.old.session.runs }

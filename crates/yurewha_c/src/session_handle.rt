@@ -1,6 +1,6 @@
 //! A handle of a session. What owns memory can't be passed to C, so its box is passed as a pointer.
 
-ghost use Rattle.std.specs.Prelude.{◌≡◌, ◌≢◌, ◌⊎◌, Option, Some, None, option_map};
+ghost use Rattle.std.specs.Prelude.{◌≡◌, ◌≢◌, ◌⊎◌, Option, Some, None, option_map, IfSome, IfNone};
 ghost use Rattle.yurewha_c.specs.declared.kept_session.KeptSession.{KeptSession as Kept};
 ghost use Rattle.yurewha_c.specs.Owned.{owns_session, session_code};
 
@@ -96,6 +96,26 @@ impl SessionHandle {
                 DONE
             }
             Err(_) => MEMORY,
+        }
+    }
+
+    // Takes the sessions of two handles out. If one handle is empty, it leaves both unchanged and returns `None`.
+    pub(crate) fn take_both(
+        alloc: Global,
+        first: &mut SessionHandle,
+        second: &mut SessionHandle,
+    ) -> Option<(Box<KeptSession>, Box<KeptSession>)>
+        ensures taken { IfSome result (λ both. (first.old.value ≡ Some both.0.value) × (second.old.value ≡ Some both.1.value)) }
+        ensures none { IfNone result (((first.old.value ≡ None) ⊎ (second.old.value ≡ None))
+            × (first.new.value ≡ first.old.value) × (second.new.value ≡ second.old.value)) }
+    {
+        let one = first.take(alloc)?;
+        match second.take(alloc) {
+            Some(other) => Some((one, other)),
+            None => {
+                first.put(one);
+                None
+            }
         }
     }
 }

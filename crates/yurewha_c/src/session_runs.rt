@@ -3,7 +3,7 @@
 ghost use Rattle.std.specs.Prelude.{◌≡◌, ◌≢◌, ◌⊎◌, ◌↔◌, None, Some, IfErr, IfOk, IfSome, IsSomeAnd, length, slice_get};
 ghost use Rattle.yurewha_c.specs.Handles.{BothHold, Reads};
 ghost use Rattle.upload_session.specs.Session.{size_of_runs, AreApart};
-ghost use Rattle.subtree_sessions.specs.Subtrees.{subtrees};
+ghost use Rattle.upload_session.specs.Subtrees.{subtrees};
 ghost use Rattle.yurewha_c.specs.Sessions.{run_from, run_of};
 
 use crate::kept_session::KeptSession;
@@ -11,7 +11,7 @@ use crate::session_handle::SessionHandle;
 use crate::status::{ARGUMENTS, DONE, EMPTY_HANDLE, MEMORY, status_of};
 use crate::subtree_handle::SubtreeHandle;
 use std::alloc::Global;
-use subtree_sessions::session::Session;
+use upload_session::session::Session;
 use xet_merkle::merkle_hash_subtree::MerkleHashSubtree;
 
 /// Writes the number of runs of adjacent taken positions. Whatever calls a session has had, a free position lies

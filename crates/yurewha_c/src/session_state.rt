@@ -4,7 +4,7 @@ ghost use Rattle.std.specs.Prelude.{◌≡◌, ◌≢◌, ◌⊎◌, ◌↔◌, 
 ghost use Rattle.upload_session.specs.Gaps.{num_positions, AllTaken, IsNextGap};
 ghost use Rattle.upload_session.specs.Hashes.{Hash as HashWords, is_among, Knows};
 ghost use Rattle.upload_session.specs.Session.{chunks_of, is_taken, meet, HaveSaltedHash};
-ghost use Rattle.subtree_sessions.specs.Subtrees.{subtrees};
+ghost use Rattle.upload_session.specs.Subtrees.{subtrees};
 ghost use Rattle.xet_merkle.specs.Roots.{total_size, IsFileHash};
 ghost use Rattle.yurewha_c.specs.Handles.{Reads};
 ghost use Rattle.yurewha_c.specs.Pieces.{words_of};

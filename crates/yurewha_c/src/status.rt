@@ -1,10 +1,11 @@
 //! The statuses that exports return. The status is 0 if and only if the call succeeded.
 
 ghost use Rattle.std.specs.Prelude.{◌≡◌};
-ghost use Rattle.yurewha_c.specs.Statuses.{core_status, open_status, proof_status, session_status, text_status};
+ghost use Rattle.yurewha_c.specs.Statuses.{core_status, open_status, proof_status, range_status, session_status, text_status};
 
 use range_proof::OpenFault;
 use session_json::fault::SessionTextFault;
+use upload_session::range_fault::RangeFault;
 use upload_session::session_fault::SessionFault;
 use xet_merkle::CoreError;
 
@@ -82,6 +83,19 @@ pub(crate) fn status_of_fault(fault: SessionFault) -> u32
         SessionFault::Sizes => SIZES,
         SessionFault::Memory => MEMORY,
         SessionFault::Gap => SESSION_GAP,
+    }
+}
+
+// Returns the status of an error of a call that puts a range or another session.
+pub(crate) fn status_of_range_fault(fault: RangeFault) -> u32
+    ensures { result ≡ range_status fault }
+{
+    match fault {
+        RangeFault::Range => ARGUMENTS,
+        RangeFault::Overlap(_) => SESSION_OVERLAP,
+        RangeFault::Positions => SESSION_POSITIONS,
+        RangeFault::Sizes => SIZES,
+        RangeFault::Memory => MEMORY,
     }
 }
 

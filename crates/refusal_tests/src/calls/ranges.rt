@@ -7,14 +7,14 @@ use std::process::Abort;
 use test_support::texts::with_hashes;
 use xet_merkle::CoreError;
 use xet_merkle::aggregated_hashes::{Node, file_hash, xorb_hash};
-use xet_merkle::chunk_range::{ChunkRange, hashes_of_open};
+use xet_merkle::chunk_range::{ChunkRange, CopyableRange, hashes_of_open};
 use xet_merkle::merge_tree::MergeTree;
 use xet_merkle::merkle_hash_subtree::MerkleHashSubtree;
 use xet_merkle::parent_maker::{ParentHashes, ParentMaker};
 use xet_merkle::plain_range::PlainRange;
 
 /// A kind of range whose values can be compared.
-pub trait Kind: ChunkRange {
+pub trait Kind: CopyableRange {
     /// Returns whether two ranges are equal.
     fn equals(&self, other: &Self) -> bool;
 }

@@ -4,10 +4,10 @@ use super::ranges::Kind;
 use super::{Call, Outcome, Refusing, outcome_of};
 use std::alloc::Global;
 use std::process::Abort;
-use subtree_sessions::session::Session;
 use test_support::reference_list;
 use test_support::texts::{four_fields, three_fields};
-use upload_session::session::SessionOf;
+use upload_session::range_fault::RangeFault;
+use upload_session::session::{Session, SessionOf};
 use upload_session::session_fault::SessionFault;
 use xet_hash::data_hash::MerkleHash;
 use xet_merkle::CoreError;
@@ -24,6 +24,10 @@ put between two runs|1,2,3|0:1:1 2:3:1|1:2:1|
 put before a longer run|1,2,3,1|1:2,3,1:3|0:1:0|
 put between a run and a longer one|1,2,3,2,1|0:1:1 2:3,2,1:2|1:2:0|
 push of a run|1,2,3||2:3:1 0:1,2:2|0:1,2:2
+range alone|1,2,3||2:3:1 0:1,2:2|0:1,2:2
+range between two runs|1,2,3|0:1:1 2:3:1|1:2:1|
+join with a run|1,2,3|0:1:1 2:3:1|1:2:1|
+join with two runs|1,2,4,3|0:1:1 3:3:1|1:2,4:2|
 hashes to keep|0,1,2,3,4,5,6,7||0:0,1,2,3,4,5,6,7:8|0:0,1,2,3,4,5,6,7:0
 finish|1,2,3|2:3:1 0:1,2:2||
 finish with equal chunks|1,1,1,1|0:1,1:1 2:1,1:0||
@@ -39,6 +43,18 @@ fn is_right<T: PartialEq + Drop>(
     match answer {
         Ok(value) => Ok(value == expected),
         Err(SessionFault::Memory) => Err(CoreError::OutOfMemory),
+        Err(_) => Ok(false),
+    }
+}
+
+// Returns whether a call that puts a range or another session returns what it should.
+fn is_put<T: PartialEq + Drop>(
+    answer: Result<T, RangeFault>,
+    expected: T,
+) -> Result<bool, CoreError> {
+    match answer {
+        Ok(value) => Ok(value == expected),
+        Err(RangeFault::Memory) => Err(CoreError::OutOfMemory),
         Err(_) => Ok(false),
     }
 }
@@ -115,6 +131,16 @@ fn end_of(rt: &impl Abort, memory: Global, numbers: &str) -> End {
     }
 }
 
+// Returns a session of a put alone.
+fn session_of<'a, R: Kind<Alloc = &'a Refusing>>(
+    alloc: &'a Refusing,
+    put: &Put,
+) -> Result<SessionOf<R>, CoreError> {
+    let mut session = SessionOf::new_in(alloc)?;
+    is_right(session.put(put.first, &put.chunks), 0)?;
+    Ok(session)
+}
+
 // Makes a call with the chunks of a put. Returns whether it returns what it should.
 fn takes<'a, R: Kind<Alloc = &'a Refusing>>(
     alloc: &'a Refusing,
@@ -132,6 +158,20 @@ fn takes<'a, R: Kind<Alloc = &'a Refusing>>(
         "hashes to keep" => {
             session.keep_hashes(chunks)?;
             Ok(true)
+        }
+        "range alone" | "range between two runs" => {
+            let range = R::from_chunks(alloc, false, chunks, false)?;
+            is_put(session.put_range(first, chunks.len() as u64, range), ())
+        }
+        "join with a run" => {
+            let other = session_of(alloc, put)?;
+            is_put(session.join(&other), put.new)
+        }
+        "join with two runs" => {
+            let mut joined = session_of(alloc, put)?;
+            let is_right = is_put(joined.join(session), put.new)?;
+            *session = joined;
+            Ok(is_right)
         }
         _ => is_right(session.put(first, chunks), put.new),
     }

@@ -6,10 +6,9 @@ use Rattle.std.specs.BTreeMap.{is_at}
 use Rattle.std.specs.BTreeMap.Range.{entries_between}
 use Rattle.std.specs.Map.{lookup}
 use Rattle.xet_roots.specs.Groups.{Node}
-use Rattle.xet_roots.specs.Roots.{total_size}
 use Rattle.chunk_ranges.specs.declared.chunk_range.ChunkRange as chunk_range
 use Rattle.upload_session.specs.declared.runs.Run.{Run}
-use Rattle.upload_session.specs.Session.{Placed, PlacedRun, meet, place, AreApart, AreJoined, StandFor}
+use Rattle.upload_session.specs.Session.{Placed, PlacedRun, meet, place, AreApart, IsRangeJoined, StandFor}
 
 -- the last of the runs that begin at or before a position ends right before it
 abbrev pub EndsAt : {C : Type 0} → List (PlacedRun C) → ℕ → ℕ → Type 0
@@ -36,18 +35,19 @@ AreAround {C} begin after others back =
     All (λ (run : PlacedRun C). run.0 < begin) others × (begin < after) × All (λ (run : PlacedRun C). after < run.0) back
 
 module _ {C A : Type 0} (kind : chunk_range.Ghosts C A) where
-  -- the run of some chunks that end right before a position, and of the run that begins there, if there is one
-  abbrev pub IsWith : Option (Run C) → ℕ → List Node → Run C → Type 0
-  IsWith None after chunks made =
-      (made.end ≡ after) × kind.stands made.range chunks
+  -- the run of a range that ends right before a position, and of the run that begins there, if there is one
+  abbrev pub IsWith : Option (Run C) → ℕ → C → Run C → Type 0
+  IsWith None after given made =
+      (made.end ≡ after) × ((chunks : List Node) → kind.stands given chunks → kind.stands made.range chunks)
       × (kind.start made.range ≡ false) × (kind.end made.range ≡ false)
-  IsWith (Some next) after chunks made =
+  IsWith (Some next) after given made =
       (made.end ≡ next.end)
-      × ((more : List Node) → kind.stands next.range more → kind.stands made.range (chunks ++ more))
+      × ((chunks more : List Node) → kind.stands given chunks → kind.stands next.range more
+      → kind.stands made.range (chunks ++ more))
       × (kind.start made.range ≡ false) × (kind.end made.range ≡ kind.end next.range)
 
   -- the same, where the run that begins there is one of these
-  abbrev pub IsWithNext : List (PlacedRun C) → ℕ → List Node → Run C → Type 0
+  abbrev pub IsWithNext : List (PlacedRun C) → ℕ → C → Run C → Type 0
   IsWithNext runs after = IsWith (lookup (is_at (nat_cmp after)) runs) after
 
   -- a range and the range of the run after it are merged into one run between others
@@ -58,16 +58,17 @@ module _ {C A : Type 0} (kind : chunk_range.Ghosts C A) where
       × (kind.start range ≡ kind.start front) × (kind.end range ≡ kind.end next.range)
       × (kind.total range ≡ kind.total front + kind.total next.range)
 
-  -- chunks are joined with runs, which stay apart, and now stand for these chunks too
-  abbrev pub TakeIn : List (PlacedRun C) → ℕ → List Node → List (PlacedRun C) → Type 0
-  TakeIn old first chunks new =
-      AreJoined kind old first chunks new × AreApart new
-      × ((placed : List Placed) → StandFor kind old placed → StandFor kind new (place placed first chunks))
+  -- a range is joined with runs, which stay apart, and now stand for its chunks too, if they are as many as was said
+  abbrev pub TakeIn : List (PlacedRun C) → ℕ → ℕ → C → List (PlacedRun C) → Type 0
+  TakeIn old first count made new =
+      IsRangeJoined kind old first count made new × AreApart new
+      × ((chunks : List Node) (placed : List Placed) → length chunks ≡ count → kind.stands made chunks
+      → StandFor kind old placed → StandFor kind new (place placed first chunks))
 
-  -- a range that is open at both ends is placed from a position up to another one, and runs take its chunks in
+  -- a range that is open at both ends is placed from a position up to another one, and runs take it in
   abbrev pub Places : List (PlacedRun C) → ℕ → ℕ → C → List (PlacedRun C) → Type 0
   Places old first after made new =
-      (chunks : List Node) → 0 < length chunks → after ≡ first + length chunks
-      → AreApart old → meet old first (length chunks) ≡ false
-      → kind.stands made chunks → kind.start made ≡ false → kind.end made ≡ false → kind.total made ≡ total_size chunks
-      → TakeIn old first chunks new
+      (count : ℕ) → 0 < count → after ≡ first + count
+      → AreApart old → meet old first count ≡ false
+      → kind.start made ≡ false → kind.end made ≡ false
+      → TakeIn old first count made new

@@ -4,7 +4,7 @@ use Rattle.std.proofs.lemmas.Bool.{false≢true}
 use Rattle.std.proofs.lemmas.List.{length-map}
 use Rattle.subtree_levels.specs.Subtree.{Subtree}
 use Rattle.upload_session.specs.Session.{PlacedRun, CanFollow}
-use Rattle.subtree_sessions.specs.Subtrees.{subtrees}
+use Rattle.upload_session.specs.Subtrees.{subtrees}
 use Rattle.session_json.specs.Steps.SavedRuns.{placed, all_placed}
 use Rattle.session_json.proofs.Following.{follows_placed, up_to}
 use Rattle.session_json.proofs.reading.follow_each.Goals as goal

@@ -2,7 +2,7 @@ use Rattle.std.proofs.Common.{◌<◌, ℕ, take, get_or}
 use Rattle.std.specs.declared.alloc.Global.{Global}
 use Rattle.subtree_levels.specs.Subtree.{Subtree}
 use Rattle.upload_session.specs.Session.{PlacedRun, CanFollow}
-use Rattle.subtree_sessions.specs.Subtrees.{subtrees}
+use Rattle.upload_session.specs.Subtrees.{subtrees}
 use Rattle.session_json.specs.Steps.SavedRuns.{all_placed}
 use Rattle.session_json.proofs.reading.follow_each.Given as goal
 

@@ -1,7 +1,7 @@
 use Rattle.std.proofs.Common.{◌≡◌, [], arith, length, subst, sym, ap, ◌∙◌, rules}
 use Rattle.std.proofs.lemmas.List.{length-map, nil_from_length}
 use Rattle.std.specs.declared.alloc.Global.{Global}
-use Rattle.subtree_sessions.specs.Subtrees.{subtrees}
+use Rattle.upload_session.specs.Subtrees.{subtrees}
 use Rattle.upload_session.specs.Session.{place, CountsNew, LearnsHashes, StandFor}
 use Rattle.yurewha_c.specs.Chunks.{node_of, nodes_of}
 use Rattle.yurewha_c.specs.Sessions.{seen_hashes}

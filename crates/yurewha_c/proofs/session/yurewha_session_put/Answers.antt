@@ -1,6 +1,6 @@
 use Rattle.std.proofs.Common.{length}
 use Rattle.std.specs.declared.alloc.Global.{Global}
-use Rattle.subtree_sessions.specs.Subtrees.{subtrees}
+use Rattle.upload_session.specs.Subtrees.{subtrees}
 use Rattle.upload_session.proofs.Positions.{meet_overlaps}
 use Rattle.yurewha_c.proofs.session.yurewha_session_put.Goals as goal
 

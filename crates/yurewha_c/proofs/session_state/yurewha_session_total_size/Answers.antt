@@ -1,6 +1,6 @@
 use Rattle.std.proofs.Common.{refl, ap, ◌∙◌}
 use Rattle.std.specs.declared.alloc.Global.{Global}
-use Rattle.subtree_sessions.proofs.Restoring.{sizes-subtrees}
+use Rattle.upload_session.proofs.Restoring.{sizes-subtrees}
 use Rattle.yurewha_c.proofs.session_state.yurewha_session_total_size.Goals as goal
 
 pub returns : goal.returns

@@ -1,4 +1,4 @@
-use Rattle.std.proofs.Common.{arith, nat_cmp, ◌≡◌, ◌≢◌, ◌+◌, ◌^◌, ◌<◌, List, length, sym, subst, ◌∙◌, ap}
+use Rattle.std.proofs.Common.{arith, nat_cmp, ◌≡◌, ◌≢◌, ◌+◌, ◌^◌, ◌<◌, List, sym, subst, ◌∙◌, ap}
 use Rattle.std.specs.Prelude.{Err, Some, is_some, IfErr}
 use Rattle.std.proofs.lemmas.Bool.{true≢false}
 use Rattle.std.proofs.lemmas.Option.{same_Some}
@@ -7,7 +7,6 @@ use Rattle.std.specs.List.Sorted.{IsStrictlySortedBy}
 use Rattle.std.specs.Map.{keys_of, lookup, remove_entry, set_value}
 use Rattle.std.proofs.lemmas.Map.Steps.{set_value_same}
 use Rattle.std.proofs.lemmas.Result.{err_from_is_err_and}
-use Rattle.xet_roots.specs.Roots.{total_size}
 use Rattle.xet_roots.specs.declared.error.CoreError.TheVariants.{OutOfMemory}
 use Rattle.upload_session.specs.declared.runs.Run.{Run}
 use Rattle.upload_session.specs.Session.{PlacedRun}
@@ -33,19 +32,18 @@ returns-in_err-join-in-Some-clause-unchanged g c =
     ∙ c.self.view_is)
 
 pub returns-clause-placed : goal.returns-clause-placed
-returns-clause-placed g c = λ chunks some after_is runs_apart free meant opens closes size.
+returns-clause-placed g c = λ count some after_is runs_apart free opens closes.
     let kind = g.C.ChunkRange in
     let runs = c.args.self.now in
     let first = c.args.first in
-    let count = length chunks in
     let after = first + count in
     let ahead : first < after = omega (arith, some) in
     let opened = c.requires.room.1.0 in
     let at = around first count runs runs_apart free in
     let made = c.in_ok-made.made in
-    let of_made = made-with kind first chunks some runs at runs_apart opened made
-    (subst (λ n. IsWithNext kind runs n chunks made) after_is (c.in_ok-made.ensures.stands chunks meant opens closes))
-    (c.in_ok-made.ensures.total ∙ ap (λ n. n + size_at kind c.args.after runs) size ∙ ap (λ n. total_size chunks + size_at kind n runs) after_is) in
+    let of_made = made-with kind first count c.args.made some runs at runs_apart opened made
+    (subst (λ n. IsWithNext kind runs n c.args.made made) after_is c.in_ok-made.ensures.stands)
+    (c.in_ok-made.ensures.total ∙ ap (λ n. kind.total c.args.made + size_at kind n runs) after_is) in
     let view = c.self.view_is in
     let test = is_at (nat_cmp after) in
     elim c.match-previous.branch [
@@ -59,7 +57,7 @@ returns-clause-placed g c = λ chunks some after_is runs_apart free meant opens 
                 let new : Run g.row.C.Denot = run_to made.end w'.join.new.self in
                 let same : w'.in-Some-get_mut.run'.now ≡ last = same_Some _ _ (w'.in-Some-get_mut.ensures.value ∙ found) in
                 let merged = w'.in_ok-join-in-Some.ensures in
-                placed-merged kind first chunks some runs at runs_apart opened c.remove.new.self.entries made of_made begin last w'.join.new.self previous
+                placed-merged kind first count c.args.made some runs at runs_apart opened c.remove.new.self.entries made of_made begin last w'.join.new.self previous
                 (λ a b front back. merged.stands a b (subst (λ (run : Run g.row.C.Denot). kind.stands run.range a) (sym same) front) back)
                 (merged.start ∙ ap (λ (run : Run g.row.C.Denot). kind.start run.range) same) merged.end
                 (merged.total ∙ ap (λ (run : Run g.row.C.Denot). kind.total run.range + kind.total made.range) same)
@@ -73,7 +71,7 @@ returns-clause-placed g c = λ chunks some after_is runs_apart free meant opens 
                 absurd (true≢false (sym (ap is_some (w'.in_default.ensures.value ∙ found))))
           ]
       | in-None+in_ok-insert-in-None w ↦
-          placed-alone kind first chunks some runs at runs_apart opened c.remove.new.self.entries made of_made
+          placed-alone kind first count c.args.made some runs at runs_apart opened c.remove.new.self.entries made of_made
           (previous-none first after ahead runs at (subst (IsPrevious runs first) w.in-None.is c.requires.previous))
           (c.remove.ensures.entries
           ∙ ap (λ n. remove_entry (is_at (nat_cmp n)) c.match-previous.self-inside.runs.entries) after_is

@@ -1,4 +1,4 @@
-use Rattle.std.proofs.Common.{arith, nat_cmp, ◌≡◌, ◌≢◌, ◌+◌, ◌<◌, ◌∷◌, ◌++◌, length, refl, sym, ap, subst, ◌∙◌}
+use Rattle.std.proofs.Common.{arith, nat_cmp, ◌≡◌, ◌≢◌, ◌+◌, ◌<◌, ◌∷◌, ◌++◌, refl, sym, ap, subst, ◌∙◌}
 use Rattle.std.specs.Prelude.{Option, Some, None, IsSome}
 use Rattle.std.specs.BTreeMap.{is_at}
 use Rattle.std.specs.Map.{lookup}
@@ -15,11 +15,10 @@ some-of (Some x) h = (x, refl)
 some-of None h = absurd (true≢false (sym h))
 
 pub returns-in_ok-put_before_next-in-Some-clause-placed : goal.returns-in_ok-put_before_next-in-Some-clause-placed
-returns-in_ok-put_before_next-in-Some-clause-placed g c = λ chunks some after_is runs_apart free meant opens closes size.
+returns-in_ok-put_before_next-in-Some-clause-placed g c = λ count some after_is runs_apart free opens closes.
     let kind = g.C.ChunkRange in
     let runs = c.args.self.now in
     let first = c.args.first in
-    let count = length chunks in
     let after = first + count in
     let ahead : first < after = omega (arith, some) in
     let opened = c.requires.room.1.0 in
@@ -35,20 +34,18 @@ returns-in_ok-put_before_next-in-Some-clause-placed g c = λ chunks some after_i
     ∙ ap (λ run. at.front ++ (begin, last) ∷ with_run run at.back) next_is
     ∙ ap (λ n. at.front ++ (begin, last) ∷ (n, next) ∷ at.back) (sym after_is) in
     let apart = subst (λ n. AreAround begin n at.front at.back) (sym after_is) (around-previous first after ahead runs at begin last previous) in
-    placed-before kind first chunks some runs at runs_apart opened c.put_before_next.new.self begin last next c.in_ok-front-in-Some.front previous next_is
-    (λ a stands. c.in_ok-front-in-Some.ensures.stands last (previous-found first after ahead runs at (begin, last) previous) a chunks stands meant)
+    placed-before kind first count c.args.made some runs at runs_apart opened c.put_before_next.new.self begin last next c.in_ok-front-in-Some.front previous next_is
+    (λ a chunks stands meant. c.in_ok-front-in-Some.ensures.stands last (previous-found first after ahead runs at (begin, last) previous) a chunks stands meant)
     c.in_ok-front-in-Some.ensures.start
     (c.in_ok-front-in-Some.ensures.total
-    ∙ ap (λ n. n + kind.total c.args.made) (size-at kind begin runs (Some last) (previous-found first after ahead runs at (begin, last) previous))
-    ∙ ap (λ n. kind.total last.range + n) size)
+    ∙ ap (λ n. n + kind.total c.args.made) (size-at kind begin runs (Some last) (previous-found first after ahead runs at (begin, last) previous)))
     (c.in_ok-put_before_next-in-Some.ensures.put at.front last next at.back split apart)
 
 pub returns-in_ok-begin_before_next-in-None-clause-placed : goal.returns-in_ok-begin_before_next-in-None-clause-placed
-returns-in_ok-begin_before_next-in-None-clause-placed g c = λ chunks some after_is runs_apart free meant opens closes size.
+returns-in_ok-begin_before_next-in-None-clause-placed g c = λ count some after_is runs_apart free opens closes.
     let kind = g.C.ChunkRange in
     let runs = c.args.self.now in
     let first = c.args.first in
-    let count = length chunks in
     let after = first + count in
     let ahead : first < after = omega (arith, some) in
     let opened = c.requires.room.1.0 in
@@ -62,7 +59,7 @@ returns-in_ok-begin_before_next-in-None-clause-placed g c = λ chunks some after
     ∙ ap (λ run. at.front ++ with_run run at.back) next_is
     ∙ ap (λ n. at.front ++ (n, next) ∷ at.back) (sym after_is) in
     let apart = subst (λ n. AreAround first n at.front at.back) (sym after_is) (around-first first after ahead runs at) in
-    placed-first kind first chunks some runs at runs_apart opened c.begin_before_next.new.self next c.args.made previous next_is meant opens size
+    placed-first kind first count c.args.made some runs at runs_apart opened c.begin_before_next.new.self next c.args.made previous next_is (λ chunks stands. stands) opens refl
     (c.in_ok-begin_before_next-in-None.ensures.put at.front next at.back split apart)
 
 pub with_previous-requires-clause-room : goal.with_previous-requires-clause-room

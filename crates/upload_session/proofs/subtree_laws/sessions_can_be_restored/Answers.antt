@@ -3,9 +3,9 @@ use Rattle.subtree_levels.specs.Subtree.{Subtree}
 use Rattle.upload_session.specs.Hashes.{hashes_of}
 use Rattle.upload_session.specs.Session.{PlacedRun, size_of_runs, StandFor}
 use Rattle.upload_session.proofs.Sizes.{sizes-chunks}
-use Rattle.subtree_sessions.specs.Subtrees.{subtrees}
-use Rattle.subtree_sessions.proofs.Restoring.{known-both, sizes-subtrees}
-use Rattle.subtree_sessions.proofs.laws.sessions_can_be_restored.Goals as goal
+use Rattle.upload_session.specs.Subtrees.{subtrees}
+use Rattle.upload_session.proofs.Restoring.{known-both, sizes-subtrees}
+use Rattle.upload_session.proofs.subtree_laws.sessions_can_be_restored.Goals as goal
 
 pub returns-clause-stands : goal.returns-clause-stands
 returns-clause-stands g c = λ saved restored placed stand runs size. (

@@ -1,7 +1,7 @@
 use Rattle.std.proofs.Common.{ap}
 use Rattle.xet_roots.specs.Roots.{total_size}
-use Rattle.subtree_sessions.proofs.Restoring.{sizes-subtrees}
-use Rattle.subtree_sessions.proofs.laws.ranges_have_the_sizes_of_their_chunks.Goals as goal
+use Rattle.upload_session.proofs.Restoring.{sizes-subtrees}
+use Rattle.upload_session.proofs.subtree_laws.ranges_have_the_sizes_of_their_chunks.Goals as goal
 
 pub returns-clause-subtrees : goal.returns-clause-subtrees
 returns-clause-subtrees g c = sizes-subtrees g.row.A.Denot

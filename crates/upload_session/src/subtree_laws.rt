@@ -6,13 +6,13 @@ ghost use Rattle.xet_roots.specs.Roots.{total_size};
 ghost use Rattle.subtree_levels.specs.Subtree.{Subtree};
 ghost use Rattle.upload_session.specs.declared.kept_hashes.SeenHashes.{SeenHashes};
 ghost use Rattle.upload_session.specs.Hashes.{hashes_of, Knows};
-ghost use Rattle.upload_session.specs.Session.{Parts, Placed, chunks_of, size_of_runs, KeepsKnown, LearnsHashes, StandFor};
+ghost use Rattle.upload_session.specs.Session.{Parts, Placed, PlacedRun, chunks_of, size_of_runs, HaveOneRange, KeepsKnown, LearnsHashes, StandFor};
 ghost use Rattle.upload_session.specs.Sizes.{HaveChunkSizes};
 
+use crate::kept_hashes::{KeptHashes, SeenHashes};
 use chunk_ranges::chunk_range::ChunkRange;
 use chunk_ranges::plain_range::PlainRange;
 use std::alloc::Allocator;
-use upload_session::kept_hashes::{KeptHashes, SeenHashes};
 use xet_merkle::merkle_hash_subtree::MerkleHashSubtree;
 
 /// A session can be saved and restored. If a session has the same runs as another, and its size is the sum of the sizes
@@ -37,4 +37,14 @@ pub fn sessions_can_be_restored<A: Allocator + Clone>()
 pub fn ranges_have_the_sizes_of_their_chunks<A: Allocator + Clone>()
     ensures subtrees { HaveChunkSizes ⟦<MerkleHashSubtree<A> as ChunkRange>⟧ }
     ensures plain { HaveChunkSizes ⟦<PlainRange<A> as ChunkRange>⟧ }
+{}
+
+/// Chunks have one subtree under the same marks. So two sessions over subtrees that stand for the same chunks have the
+/// same runs, with equal subtrees, whether they came to them by puts, by `put_range`, by `join` or by `push_run`, and in
+/// whatever order.
+pub fn chunks_tell_the_subtrees<A: Allocator + Clone>()
+    ensures subtrees { HaveOneRange ⟦<MerkleHashSubtree<A> as ChunkRange>⟧ }
+    ensures runs { (runs others : List (PlacedRun Subtree)) (placed : List Placed) →
+        StandFor ⟦<MerkleHashSubtree<A> as ChunkRange>⟧ runs placed →
+        StandFor ⟦<MerkleHashSubtree<A> as ChunkRange>⟧ others placed → runs ≡ others }
 {}

@@ -5,7 +5,7 @@ use Rattle.subtree_levels.proofs.Canonical.Collapsing.{levels_size-canonical}
 use Rattle.upload_session.specs.declared.kept_hashes.SeenHashes.{SeenHashes}
 use Rattle.upload_session.specs.Hashes.{Hash, AreBoth, Knows}
 use Rattle.upload_session.specs.Sizes.{HaveChunkSizes}
-use Rattle.subtree_sessions.specs.Subtrees.{subtrees}
+use Rattle.upload_session.specs.Subtrees.{subtrees}
 
 pub sizes-subtrees : (A : Type 0) → HaveChunkSizes {A = A} subtrees
 sizes-subtrees A range chunks canonical = levels_size-canonical parent_hash canonical.1

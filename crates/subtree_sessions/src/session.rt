@@ -1,3 +1,0 @@
-//! The session over subtrees.
-
-pub use upload_session::session::Session;
