@@ -1,6 +1,7 @@
 pub mod AsBox
 pub mod Offsets
 pub mod RangeReading
+pub mod RangeStatuses
 pub mod FlatLevels
 pub mod FlatProofs
 pub mod FactCalls

@@ -1,6 +1,6 @@
 //! What joins the parts of a file: ranges at their positions, and sessions.
 
-ghost use Rattle.std.specs.Prelude.{◌≡◌, ◌≢◌, ◌⊎◌, ◌↔◌, ◌+◌, ◌^◌, ◌≤◌, None, Some, IfErr, IfOk, IsErrOf, IsSomeAnd, OnErr, OnOk, ℕ};
+ghost use Rattle.std.specs.Prelude.{◌≡◌, ◌≢◌, ◌⊎◌, ◌↔◌, ◌+◌, ◌^◌, ◌≤◌, Some, IfErr, IfOk, IsErrOf, IsSomeAnd, OnErr, OnOk, ℕ};
 ghost use Rattle.upload_session.specs.Session.{AreBothAt, AreFree, CountsNewOf, IsUnchanged};
 ghost use Rattle.upload_session.specs.declared.range_fault.RangeFault.{RangeFault};
 ghost use Rattle.yurewha_c.specs.Handles.{BothHold};
