@@ -780,6 +780,38 @@ yurewha_status yurewha_session_run_from(yurewha_session *session, uint64_t posit
 YUREWHA_NONNULL(1) YUREWHA_INITIALIZED(1) YUREWHA_SINCE(1.1)
 void yurewha_session_free(yurewha_session *session);
 
+/* ---- Joining what many machines hashed. Each sends the range of its chunks, or its session, in whatever order; the hash of the
+ * file is the same. A part that was sent twice is refused, and changes nothing. */
+
+/* Puts a range of `count` chunks at the positions from `first` on, as yurewha_session_put puts chunks. The session gets a
+ * copy of `range`, the subtree of these chunks, which is unchanged. It doesn't know their hashes before they are kept or
+ * put.
+ *
+ * The call can't check that `range` is of `count` chunks. If it isn't, all calls go by the positions of the runs as ever,
+ * and the root and the file hash are those of the chunks of the subtrees.
+ *   DONE               the range is put
+ *   EMPTY_HANDLE       if and only if a handle is empty
+ *   ARGUMENTS          `count` is 0, or `range` is marked at an end
+ *   SESSION_OVERLAP    otherwise, one of the positions is taken
+ *   SESSION_POSITIONS  otherwise, `first` plus `count` is more than 2^64 - 1
+ *   SIZES              otherwise, the sizes of all chunks add up to more than 2^64 - 1
+ *   MEMORY             an allocation failed; this may be returned instead of the four above */
+YUREWHA_NODISCARD YUREWHA_NONNULL(1, 4) YUREWHA_INITIALIZED(1) YUREWHA_INITIALIZED(4) YUREWHA_SINCE(1.1)
+yurewha_status yurewha_session_put_range(yurewha_session *session, uint64_t first, uint64_t count, yurewha_subtree *range);
+
+/* Puts copies of all runs of another session at their positions, and keeps the hashes that it knows, unless the first
+ * session keeps none. Writes how many of these the first session didn't know. The other session is unchanged.
+ *
+ * The order doesn't matter: of many sessions that have no position in common any two can be joined first, and the last one
+ * stands for the chunks of all.
+ *   DONE             the session has the runs of both
+ *   EMPTY_HANDLE     if and only if a handle is empty
+ *   SESSION_OVERLAP  a position is taken in both
+ *   SIZES            otherwise, the sizes of all chunks add up to more than 2^64 - 1
+ *   MEMORY           an allocation failed */
+YUREWHA_NODISCARD YUREWHA_NONNULL(1, 2, 3) YUREWHA_INITIALIZED(1) YUREWHA_INITIALIZED(2) YUREWHA_SINCE(1.1)
+yurewha_status yurewha_session_join(yurewha_session *session, yurewha_session *other, uint64_t *new_hashes);
+
 /* ---- Saving a session: its runs, by yurewha_session_run_from, and the hashes that it knows */
 
 /* As JSON: yurewha_session_to_json and yurewha_session_from_json. In another form: push the runs to a new session by rising

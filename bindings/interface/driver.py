@@ -12,11 +12,11 @@ from header import FOR_C, Export, Header, Unreadable
 TELLS_TEXT = "yurewha_processor_level"
 #: The calls that change their first handle, hasher or chunker. The others leave what they read unchanged.
 CHANGES_FIRST = ("yurewha_hasher_update", "yurewha_subtree_merge_into", "yurewha_subtree_merge_into_counted", "yurewha_session_put",
-                 "yurewha_session_push_run", "yurewha_session_keep_hashes", "yurewha_reader_read", "yurewha_reader_keep_at_most",
-                 "yurewha_reader_take", "yurewha_part_check", "yurewha_hash_index_insert", "yurewha_chunker_next_boundary",
-                 "yurewha_file_hasher_update")
+                 "yurewha_session_put_range", "yurewha_session_join", "yurewha_session_push_run", "yurewha_session_keep_hashes",
+                 "yurewha_reader_read", "yurewha_reader_keep_at_most", "yurewha_reader_take", "yurewha_part_check",
+                 "yurewha_hash_index_insert", "yurewha_chunker_next_boundary", "yurewha_file_hasher_update")
 #: The calls that read their last handle, and those that empty it. Any other call that has one makes it.
-READS_LAST = ("yurewha_subtree_merge_into", "yurewha_session_push_run")
+READS_LAST = ("yurewha_subtree_merge_into", "yurewha_session_push_run", "yurewha_session_put_range", "yurewha_session_join")
 EMPTIES_LAST = ("yurewha_reader_take",)
 #: The calls that ask for memory and can do without it.
 SPARES_MEMORY = ("yurewha_reader_read", "yurewha_reader_take", "yurewha_part_check")

@@ -375,6 +375,17 @@ static uint64_t call_session_free(const struct argument *a)
     return 0;
 }
 
+static uint64_t call_session_put_range(const struct argument *a)
+{
+    return yurewha_session_put_range((yurewha_session *)a[0].data, (uint64_t)a[1].number, (uint64_t)a[2].number,
+        (yurewha_subtree *)a[3].data);
+}
+
+static uint64_t call_session_join(const struct argument *a)
+{
+    return yurewha_session_join((yurewha_session *)a[0].data, (yurewha_session *)a[1].data, (uint64_t *)a[2].data);
+}
+
 static uint64_t call_session_push_run(const struct argument *a)
 {
     return yurewha_session_push_run((yurewha_session *)a[0].data, (uint64_t)a[1].number, (uint64_t)a[2].number,
@@ -752,6 +763,10 @@ const struct call calls[] = {
     {"session_run_from", call_session_run_from, STATUS, REFUSES, false, 5, {{READ, SESSION}, {GIVEN, NUMBER},
         {OUT, NUMBER}, {OUT, NUMBER}, {MADE, SUBTREE}}},
     {"session_free", call_session_free, NOTHING, ASKS_NONE, false, 1, {{FREED, SESSION}}},
+    {"session_put_range", call_session_put_range, STATUS, REFUSES, false, 4, {{CHANGED, SESSION}, {GIVEN, NUMBER},
+        {GIVEN, NUMBER}, {READ, SUBTREE}}},
+    {"session_join", call_session_join, STATUS, REFUSES, false, 3, {{CHANGED, SESSION}, {READ, SESSION},
+        {OUT, NUMBER}}},
     {"session_push_run", call_session_push_run, STATUS, REFUSES, false, 4, {{CHANGED, SESSION}, {GIVEN, NUMBER},
         {GIVEN, NUMBER}, {READ, SUBTREE}}},
     {"session_keep_hashes", call_session_keep_hashes, STATUS, REFUSES, false, 2, {{CHANGED, SESSION}, {LIST, HASH}}},

@@ -381,6 +381,17 @@ extern "C" {
         range: *mut yurewha_subtree,
     ) -> yurewha_status;
     pub fn yurewha_session_free(session: *mut yurewha_session);
+    pub fn yurewha_session_put_range(
+        session: *mut yurewha_session,
+        first: u64,
+        count: u64,
+        range: *mut yurewha_subtree,
+    ) -> yurewha_status;
+    pub fn yurewha_session_join(
+        session: *mut yurewha_session,
+        other: *mut yurewha_session,
+        new_hashes: *mut u64,
+    ) -> yurewha_status;
     pub fn yurewha_session_push_run(
         session: *mut yurewha_session,
         first: u64,
