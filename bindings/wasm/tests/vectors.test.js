@@ -1,11 +1,13 @@
 // The scripts of tests/vectors/, through the module: calls of the library with their answers.
 
 import assert from "node:assert/strict";
+import { execFileSync } from "node:child_process";
 import { readFileSync, readdirSync } from "node:fs";
+import { fileURLToPath } from "node:url";
 import * as errors from "../yurewha/index.js";
 import { BYTES, ROOT, chunksOf, mixed, test } from "./support.js";
 
-const FOLDER = new URL("tests/vectors/scripts/", ROOT);
+const FOLDER = new URL("tests/vectors/out/scripts/", ROOT);
 const NAMES = [
     "files",
     "hashes",
@@ -21,6 +23,11 @@ const NAMES = [
     "upstream",
 ];
 const y = await errors.load(BYTES);
+try {
+    execFileSync("python3", [fileURLToPath(new URL("tests/vectors/make_vectors", ROOT)), "--scripts"]);
+} catch (cause) {
+    throw new Error("python3 tests/vectors/make_vectors --scripts makes the scripts, and failed", { cause });
+}
 
 // ---- Calls: what each call of the library is here
 
