@@ -21,7 +21,7 @@ use rand_xoshiro::Xoshiro256PlusPlus;
 use range_proofs::OF_PROOFS;
 use ranges::BROKEN_JSON;
 use refusing_allocator::RefusingAllocator;
-use sessions::OF_SESSIONS;
+use sessions::{OF_JOINS, OF_SESSIONS};
 use std::alloc::Global;
 use std::process::Abort;
 use test_support::{MARKS, drawn_list, drawn_nodes};
@@ -398,6 +398,16 @@ fn calls_of_sessions_are_refused_with_each_request(rt: HostRuntime) {
                 "{row}"
             );
         }
+    }
+    for row in OF_JOINS.lines() {
+        assert!(rt;
+            is_refused_with_each_request(
+                &rt,
+                Call::SessionOfSubtrees(row),
+                &Chunks::none(rt.alloc()),
+            ),
+            "{row}"
+        );
     }
 }
 

@@ -29,14 +29,16 @@ fn drawn_cuts(
 ) -> Vec<(usize, usize)> {
     let mut cuts = Vec::new(alloc);
     let mut begin = 0u64;
-    while begin < count {
-        let end = begin
-            .saturating_add(generator.next_u64() % 60)
-            .saturating_add(1)
-            .min(count);
-        cuts.push((begin as usize, end as usize))
-            .expect(rt, "memory");
-        begin = end;
+    for _ in 0..count {
+        if begin < count {
+            let end = begin
+                .saturating_add(generator.next_u64() % 60)
+                .saturating_add(1)
+                .min(count);
+            cuts.push((begin as usize, end as usize))
+                .expect(rt, "memory");
+            begin = end;
+        }
     }
     cuts
 }

@@ -5,9 +5,39 @@ use crate::told::told;
 use anyhow::{Context, Result, bail};
 use std::alloc::Global;
 use upload_session::session::SessionOf;
-use xet_merkle::chunk_range::CopyableRange;
+use xet_merkle::chunk_range::ChunkRange;
 use xet_merkle::merkle_hash_subtree::MerkleHashSubtree;
 use xet_merkle::plain_range::PlainRange;
+
+// A kind of range. Plain ranges can't be copied, so sessions of them can't be joined.
+trait Kind: ChunkRange<Alloc = Global> {
+    // Joins a session to another, and returns what this returned.
+    fn joined(
+        alloc: Global,
+        session: &mut SessionOf<Self>,
+        other: &SessionOf<Self>,
+    ) -> Result<String>;
+}
+
+impl Kind for MerkleHashSubtree {
+    fn joined(
+        alloc: Global,
+        session: &mut SessionOf<Self>,
+        other: &SessionOf<Self>,
+    ) -> Result<String> {
+        Ok(told(alloc, session.join(other))?)
+    }
+}
+
+impl Kind for PlainRange {
+    fn joined(
+        _alloc: Global,
+        _session: &mut SessionOf<Self>,
+        _other: &SessionOf<Self>,
+    ) -> Result<String> {
+        bail!("no such call")
+    }
+}
 
 /// Makes the calls of a session, which have commas between them. Returns `None` if the name is another one.
 pub fn answer(alloc: Global, name: &str, arguments: &str) -> Result<Option<String>> {
@@ -20,7 +50,7 @@ pub fn answer(alloc: Global, name: &str, arguments: &str) -> Result<Option<Strin
 }
 
 // Returns what the calls of a new session return.
-fn answers<C: CopyableRange<Alloc = Global>>(alloc: Global, calls: &str) -> Result<String> {
+fn answers<C: Kind>(alloc: Global, calls: &str) -> Result<String> {
     let mut session: SessionOf<C> = SessionOf::new(alloc);
     let mut text = String::new(alloc);
     for call in calls.split(", ") {
@@ -33,11 +63,7 @@ fn answers<C: CopyableRange<Alloc = Global>>(alloc: Global, calls: &str) -> Resu
 }
 
 // Makes a call of a session, and returns what it returned.
-fn called<C: CopyableRange<Alloc = Global>>(
-    alloc: Global,
-    session: &mut SessionOf<C>,
-    call: &str,
-) -> Result<String> {
+fn called<C: Kind>(alloc: Global, session: &mut SessionOf<C>, call: &str) -> Result<String> {
     let (name, argument) = call.split_once(' ').context("no argument")?;
     let text = match name {
         "put" => put(alloc, session, argument)?,
@@ -54,17 +80,13 @@ fn called<C: CopyableRange<Alloc = Global>>(
 }
 
 // Puts chunks at the positions from a first one on.
-fn put<C: CopyableRange<Alloc = Global>>(
-    alloc: Global,
-    session: &mut SessionOf<C>,
-    argument: &str,
-) -> Result<String> {
+fn put<C: Kind>(alloc: Global, session: &mut SessionOf<C>, argument: &str) -> Result<String> {
     let (first, chunks) = argument.split_once(' ').context("no chunks")?;
     Ok(told(alloc, session.put(number(first)?, &list(alloc, chunks)?))?)
 }
 
 // Puts a range of chunks, which is said to be of a number of chunks, at the positions from a first one on.
-fn put_range<C: CopyableRange<Alloc = Global>>(
+fn put_range<C: Kind>(
     alloc: Global,
     session: &mut SessionOf<C>,
     at_start: bool,
@@ -82,22 +104,14 @@ fn put_range<C: CopyableRange<Alloc = Global>>(
 }
 
 // Joins a session of chunks at the positions from a first one on.
-fn join<C: CopyableRange<Alloc = Global>>(
-    alloc: Global,
-    session: &mut SessionOf<C>,
-    argument: &str,
-) -> Result<String> {
+fn join<C: Kind>(alloc: Global, session: &mut SessionOf<C>, argument: &str) -> Result<String> {
     let mut other = SessionOf::new(alloc);
     put(alloc, &mut other, argument)?;
-    Ok(told(alloc, session.join(&other))?)
+    C::joined(alloc, session, &other)
 }
 
 // Returns the first position of a run and the size of its range.
-fn range<C: CopyableRange<Alloc = Global>>(
-    alloc: Global,
-    session: &SessionOf<C>,
-    argument: &str,
-) -> Result<String> {
+fn range<C: Kind>(alloc: Global, session: &SessionOf<C>, argument: &str) -> Result<String> {
     match session.range(argument.parse()?) {
         Some((first, range)) => {
             let size = range.total_size();

@@ -5,23 +5,32 @@ use serde_json::Value;
 use std::alloc::Global;
 use std::process::Abort;
 use test_support::texts::with_hashes;
+use upload_session::range_fault::RangeFault;
+use upload_session::session::SessionOf;
 use xet_merkle::CoreError;
 use xet_merkle::aggregated_hashes::{Node, file_hash, xorb_hash};
-use xet_merkle::chunk_range::{ChunkRange, CopyableRange, hashes_of_open};
+use xet_merkle::chunk_range::{ChunkRange, hashes_of_open};
 use xet_merkle::merge_tree::MergeTree;
 use xet_merkle::merkle_hash_subtree::MerkleHashSubtree;
 use xet_merkle::parent_maker::{ParentHashes, ParentMaker};
 use xet_merkle::plain_range::PlainRange;
 
 /// A kind of range whose values can be compared.
-pub trait Kind: CopyableRange {
+pub trait Kind: ChunkRange {
     /// Returns whether two ranges are equal.
     fn equals(&self, other: &Self) -> bool;
+
+    /// Joins a session to another. Plain ranges can't be copied, so sessions of them can't be joined.
+    fn joined(session: &mut SessionOf<Self>, other: &SessionOf<Self>) -> Result<u64, RangeFault>;
 }
 
 impl Kind for MerkleHashSubtree<&Refusing> {
     fn equals(&self, other: &Self) -> bool {
         self == other
+    }
+
+    fn joined(session: &mut SessionOf<Self>, other: &SessionOf<Self>) -> Result<u64, RangeFault> {
+        session.join(other)
     }
 }
 
@@ -31,6 +40,10 @@ impl Kind for PlainRange<&Refusing> {
             && self.chunks() == other.chunks()
             && self.at_end() == other.at_end()
             && self.total_size() == other.total_size()
+    }
+
+    fn joined(_session: &mut SessionOf<Self>, _other: &SessionOf<Self>) -> Result<u64, RangeFault> {
+        Err(RangeFault::Range)
     }
 }
 

@@ -26,14 +26,16 @@ put between a run and a longer one|1,2,3,2,1|0:1:1 2:3,2,1:2|1:2:0|
 push of a run|1,2,3||2:3:1 0:1,2:2|0:1,2:2
 range alone|1,2,3||2:3:1 0:1,2:2|0:1,2:2
 range between two runs|1,2,3|0:1:1 2:3:1|1:2:1|
-join with a run|1,2,3|0:1:1 2:3:1|1:2:1|
-join with two runs|1,2,4,3|0:1:1 3:3:1|1:2,4:2|
 hashes to keep|0,1,2,3,4,5,6,7||0:0,1,2,3,4,5,6,7:8|0:0,1,2,3,4,5,6,7:0
 finish|1,2,3|2:3:1 0:1,2:2||
 finish with equal chunks|1,1,1,1|0:1,1:1 2:1,1:0||
 root|1,2,3|2:3:1 0:1,2:2||
 root and file hash|1,2,3|2:3:1 0:1,2:2||
 root and file hash|1,1,1,1|0:1,1:1 2:1,1:0||";
+
+/// Calls that join sessions over subtrees, in the form of [`OF_SESSIONS`].
+pub const OF_JOINS: &str = "join with a run|1,2,3|0:1:1 2:3:1|1:2:1|
+join with two runs|1,2,4,3|0:1:1 3:3:1|1:2,4:2|";
 
 // Returns whether a call returns what it should.
 fn is_right<T: PartialEq + Drop>(
@@ -165,11 +167,11 @@ fn takes<'a, R: Kind<Alloc = &'a Refusing>>(
         }
         "join with a run" => {
             let other = session_of(alloc, put)?;
-            is_put(session.join(&other), put.new)
+            is_put(R::joined(session, &other), put.new)
         }
         "join with two runs" => {
             let mut joined = session_of(alloc, put)?;
-            let is_right = is_put(joined.join(session), put.new)?;
+            let is_right = is_put(R::joined(&mut joined, session), put.new)?;
             *session = joined;
             Ok(is_right)
         }
