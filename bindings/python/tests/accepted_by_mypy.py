@@ -147,6 +147,9 @@ if run is not None:
     session.push_run(*run)
 for each in session.runs():
     session.push_run(each.first, each.end, each.subtree)
+    session.put_range(each.first, each.end - each.first, each.subtree)
+session.put_range(first=3, count=1, subtree=tree)
+new = session.join(session) + session.join(other=y.Session(keep_hashes=False))
 session.keep_hashes(session.known_hashes())
 session.keep_hashes(session.known_hashes().packed)
 session.keep_hashes([y.Hash(), bytes(32)])

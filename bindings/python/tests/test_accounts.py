@@ -29,6 +29,20 @@ def put(*lengths, keep_hashes=True, apart=1):
     return session
 
 
+def ranges(count, length, apart=1, place=0):
+    """A session of so many ranges of this length."""
+    session = y.Session()
+    for number in range(count):
+        first = length * number
+        session.put_range(place + first + apart * number, length, y.Subtree.from_chunks(False, CHUNKS[first:first + length], False))
+    return session
+
+
+def joined(one, other):
+    one.join(other)
+    return one
+
+
 def merged(step):
     return y.Subtree.merge_all([y.Subtree.from_chunks(False, CHUNKS[at:at + step], False) for at in range(0, len(CHUNKS), step)])
 
@@ -62,6 +76,9 @@ OBJECTS = {
     "Session of short runs": (lambda: put(*20_000 * [1], keep_hashes=False), 0.2),
     "Session of runs": (lambda: put(*100 * [200], keep_hashes=False), 0.2),
     "Session of long runs": (lambda: put(*10 * [2000], keep_hashes=False), 0.2),
+    "Session of ranges": (lambda: ranges(100, 200), 0.2),
+    "Session of adjacent ranges": (lambda: ranges(100, 200, apart=0), 0.2),
+    "joined Session": (lambda: joined(put(*50 * [200]), ranges(50, 200, place=20_000)), 0.5),
     **{f"Subtree of {count}": (lambda count=count: y.Subtree.from_chunks(False, CHUNKS[:count], False), 0.15)
        for count in (500, 5000, 40_000)},
     "Subtree without stable points": (lambda: y.Subtree.from_chunks(False, [(Z, 1)] * 20_000, False), 0.1),

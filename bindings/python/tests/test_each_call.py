@@ -91,6 +91,15 @@ def saved(one):
     return through_a_file(one.save, type(one).load)
 
 
+def moved(one, by):
+    """A session that knows the same hashes, and has the same runs so many positions later."""
+    made = y.Session()
+    for run in one.runs():
+        made.push_run(run.first + by, run.end + by, run.subtree)
+    made.keep_hashes(one.known_hashes())
+    return made
+
+
 def filled(file, count):
     room = bytearray(count)
     return file.readinto(room), room
@@ -174,7 +183,7 @@ CALLS = {
         "to_json": lambda a, b: a.to_json(),
         "total_size": lambda a, b: a.total_size, "write_svg": lambda a, b: a.write_svg(os.devnull),
         "_repr_svg_": lambda a, b: a._repr_svg_(),
-        "as a run": lambda a, b: y.Session().push_run(0, 1, b),
+        "as a run": lambda a, b: y.Session().push_run(0, 1, b), "as a range": lambda a, b: y.Session().put_range(3, 1, b),
     },
     "Session": {
         "": lambda a, b: y.Session(keep_hashes=b.keeps_hashes), "__contains__": lambda a, b: HASHES[0] in a, "__eq__": lambda a, b: a == b,
@@ -184,7 +193,8 @@ CALLS = {
         "gaps": lambda a, b: a.gaps(5), "keep_hashes": lambda a, b: a.keep_hashes([*b.known_hashes(), HASHES[4]]),
         "keeps_hashes": lambda a, b: a.keeps_hashes, "known_hashes": lambda a, b: sorted(a.known_hashes()), "load": lambda a, b: saved(b),
         "num_chunks": lambda a, b: a.num_chunks, "num_runs": lambda a, b: a.num_runs,
-        "push_run": lambda a, b: a.push_run(9, 10, b.run(0).subtree),
+        "join": lambda a, b: a.join(b), "join what follows": lambda a, b: a.join(moved(b, 5)),
+        "push_run": lambda a, b: a.push_run(9, 10, b.run(0).subtree), "put_range": lambda a, b: a.put_range(1, 1, b.run(0).subtree),
         "put": lambda a, b: a.put(1, CHUNKS[3:4]), "put itself": lambda a, b: a.put(1, b), "root": lambda a, b: a.root(1),
         "run": lambda a, b: a.run(0),
         "run_from": lambda a, b: a.run_from(0), "runs": lambda a, b: a.runs(), "save": lambda a, b: through_a_file(a.save, os.path.getsize),

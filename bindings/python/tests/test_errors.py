@@ -36,6 +36,13 @@ def session(*positions):
     return made
 
 
+def great_session(position):
+    """A session whose chunk has the most bytes that a chunk can have."""
+    made = y.Session()
+    made.put(position, [(Z, MAX)])
+    return made
+
+
 def freed():
     tree = open_tree()
     tree.__del__()
@@ -155,6 +162,25 @@ REFUSED = [
     (y.InvalidArguments, lambda: session().push_run(-1, 1, open_tree())),
     (y.InvalidArguments, lambda: session().push_run(0, MAX + 1, open_tree())),
     (y.SizeOverflow, lambda: session(1).push_run(3, 4, y.Subtree.from_chunks(False, [(Z, MAX)], False))),
+    (y.InvalidArguments, lambda: session(1).put_range(3, 0, open_tree())),
+    (y.InvalidArguments, lambda: session(1).put_range(1, 1, closed_tree())),
+    (y.InvalidArguments, lambda: session().put_range(MAX, 1, y.Subtree.from_chunks(True, [ONE], False))),
+    (y.InvalidArguments, lambda: session().put_range(0, 1, y.Subtree.from_chunks(False, [ONE], True))),
+    (y.InvalidArguments, lambda: session().put_range(-1, 1, open_tree())),
+    (y.InvalidArguments, lambda: session().put_range(MAX + 1, 1, open_tree())),
+    (y.InvalidArguments, lambda: session().put_range(0, -1, open_tree())),
+    (y.InvalidArguments, lambda: session().put_range(0, MAX + 1, open_tree())),
+    (y.SessionOverlap, lambda: session(3).put_range(2, 2, y.Subtree.from_chunks(False, [(Z, MAX)], False))),
+    (y.SessionOverlap, lambda: session(3).put_range(2, MAX, open_tree())),
+    (y.SessionPositions, lambda: session(3).put_range(MAX, 1, y.Subtree.from_chunks(False, [(Z, MAX)], False))),
+    (y.SessionPositions, lambda: session(3).put_range(4, MAX - 3, open_tree())),
+    (y.SessionSizes, lambda: session(3).put_range(1, 1, y.Subtree.from_chunks(False, [(Z, MAX)], False))),
+    (y.SessionOverlap, lambda: session(1, 3).join(session(2, 3))),
+    (y.SessionOverlap, lambda: session(3).join(session(2, 3))),
+    (y.SessionOverlap, lambda: (lambda one: one.join(one))(session(3))),
+    (y.SessionOverlap, lambda: (lambda one: one.join(great_session(3)))(session(3))),
+    (y.SessionSizes, lambda: session(3).join(great_session(1))),
+    (y.SessionSizes, lambda: great_session(1).join(session(3))),
     (y.SizeOverflow, lambda: y.HashTree([(Z, MAX), ONE])),
     (y.InvalidArguments, lambda: y.HashTree([(Z, -1)])),
     (y.InvalidArguments, lambda: y.HashTree(bytes(39))),
@@ -236,6 +262,12 @@ REFUSED = [
         lambda: freed_session().run_from(0),
         lambda: freed_session().push_run(0, 1, open_tree()),
         lambda: session().push_run(0, 1, freed()),
+        lambda: freed_session().put_range(0, 1, open_tree()),
+        lambda: session().put_range(0, 1, freed()),
+        lambda: session(0).put_range(0, 0, freed()),
+        lambda: freed_session().join(session()),
+        lambda: session().join(freed_session()),
+        lambda: (lambda one: one.join(one))(freed_session()),
         lambda: freed_session().keep_hashes([Z]),
         lambda: freed_session().known_hashes(),
         lambda: pickle.dumps(freed_session()),
@@ -317,6 +349,17 @@ REFUSED = [
         lambda: session().run_from("0"),
         lambda: session().push_run(0, 1, [ONE]),
         lambda: session().push_run(0, 1.0, open_tree()),
+        lambda: session().put_range(0, 1, [ONE]),
+        lambda: session().put_range(0, 1, session(3)),
+        lambda: session().put_range(0, 1.0, open_tree()),
+        lambda: session().put_range("0", 1, open_tree()),
+        lambda: session().put_range(0, open_tree(), 1),
+        lambda: session().put_range(0, 1),
+        lambda: session().join(),
+        lambda: session().join(None),
+        lambda: session().join(session(3).runs()),
+        lambda: session().join(session(3).to_json()),
+        lambda: session().join(open_tree()),
         lambda: session().keep_hashes([7]),
         lambda: session().keep_hashes(64 * "0"),
         lambda: pickle.dumps(y.Hasher()),
@@ -408,6 +451,16 @@ def test_a_refusal_changes_nothing():
     for first, end, subtree in ((4, 5, open_tree()), (5, 6, closed_tree()), (5, 6, great)):
         with pytest.raises((y.InvalidArguments, y.SizeOverflow)):
             one.push_run(first, end, subtree)
+    for first, count, subtree in (
+            (4, 0, open_tree()), (4, 1, closed_tree()), (3, 1, open_tree()), (2, 2, open_tree()), (MAX, 1, open_tree()), (0, 1, great)):
+        with pytest.raises((y.InvalidArguments, y.SessionError)):
+            one.put_range(first, count, subtree)
+    for other in (session(3), session(0, 3, 9), great_session(0), one):
+        other.keep_hashes([Z] if other is one else [Z, y.Hash.random_from_seed(1)])
+        before = other.copy()
+        with pytest.raises(y.SessionError):
+            one.join(other)
+        assert other == before
     assert list(one.known_hashes()) == [Z]
     assert [first for first, _ in one.runs()] == [3] and one.put(7, [ONE]) == 0
     hasher = full_hasher()
@@ -460,6 +513,15 @@ NAMED = [
     ("hash 1 ", lambda: session().keep_hashes([Z, 7])),
     ("the run must have a position, .*, got the positions from 4 up to 5", lambda: session(3).push_run(4, 5, open_tree())),
     ("the run must be a Subtree, got list", lambda: session(3).push_run(5, 6, [ONE])),
+    ("position 3 is taken$", lambda: session(3, 5).put_range(0, 5, open_tree())),
+    ("position 3 is taken$", lambda: session(2, 3).put_range(3, 1, open_tree())),
+    ("the range must have a chunk, .*, got 0 chunks from position 5 on$", lambda: session(3).put_range(5, 0, open_tree())),
+    ("the range must have .* no mark at an end, got 1 chunk from position 5 on$", lambda: session(3).put_range(5, 1, closed_tree())),
+    ("the range must be a Subtree, got list$", lambda: session(3).put_range(5, 1, [ONE])),
+    ("position 5 is taken in both sessions$", lambda: session(3, 5, 9).join(session(0, 4, 5, 9))),
+    ("position 4 is taken in both sessions$", lambda: session(2, 3, 4).join(session(4, 9))),
+    ("position 3 is taken in both sessions$", lambda: (lambda one: one.join(one))(session(3, 9))),
+    ("a Session must be joined with a Session, got Subtree$", lambda: session(3).join(open_tree())),
     ("chunk 1 ", lambda: y.HashTree([ONE, 7])),
     ("level 1 ", lambda: y.RangeProof.from_flat([(1, 0), 7], [])),
     ("a count of level 1 ", lambda: y.RangeProof.from_flat([(1, 0), (0, -1)], [])),
@@ -493,6 +555,8 @@ TOLD = [
     (f"position {U64} a number of 5001 bits", lambda: session().taken(1 << 5000)),
     (f"position {U64} a number of 129 bits", lambda: session().taken(1 << 128)),
     (f"position {U64} {2**128 - 1}", lambda: session().taken(2**128 - 1)),
+    (f"position {U64} -1", lambda: session().put_range(-1, 1, open_tree())),
+    (f"count {U64} -1", lambda: session().put_range(0, -1, open_tree())),
     (f"total {U64} -1", lambda: session().finish(-1)),
     (f"run number {U64} -1", lambda: session().run(-1)),
     ("there is no run 7", lambda: session(3).run(7)),
@@ -614,7 +678,8 @@ def deep_calls():
         lambda: session(3, 4).num_runs, lambda: one.taken(3), lambda: one.runs() == one.copy().runs(), lambda: one.run(1).end,
         lambda: one.run_from(0)[:2], lambda: one.gaps(20), lambda: session(0).finish(1, bytes(32)), one.known_hashes,
         lambda: pickle.loads(pickle.dumps(one)).num_runs, lambda: y.Session.from_json(text).to_json(),
-        lambda: one.copy().keep_hashes([Z]), lambda: one.copy().push_run(20, 50, tree),
+        lambda: one.copy().keep_hashes([Z]), lambda: one.copy().push_run(20, 50, tree), lambda: one.copy().put_range(20, 30, tree),
+        lambda: one.copy().join(session(4, 5)),
         lambda: y.HashTree(chunks).root, lambda: TREE.file_hash(bytes(32)), lambda: TREE.proof_of_bytes(0, 7) == PROOF,
         lambda: TREE.bytes_of(0, 2), lambda: y.RangeProof.from_json(PROOF.to_json()).left(0),
         lambda: y.RangeProof.from_flat(*PROOF.to_flat()).chunks, lambda: y.RangeProof.from_bytes(PROOF.to_bytes()).right(0),
@@ -730,6 +795,8 @@ calls = [
     lambda: session.put(0, chunks),
     lambda: full.copy(),
     lambda: session.push_run(0, count, tree),
+    lambda: session.put_range(0, count, tree),
+    lambda: session.join(full),
     lambda: session.keep_hashes(hashes),
     lambda: index.add_all(hashes, numbers),
     lambda: y.Subtree.merge_all([tree, tree]),
@@ -766,7 +833,7 @@ def test_out_of_memory():
     done = subprocess.run(
         [sys.executable, "-c", OUT_OF_MEMORY.format(path=sys.path)], capture_output=True, text=True, check=False,
         env=environment)
-    assert done.stdout == "refused 14\n", done.stderr
+    assert done.stdout == "refused 16\n", done.stderr
 
 
 def test_no_leak():
@@ -782,7 +849,10 @@ def test_no_leak():
             one = y.Session()
             one.put(0, chunks)
             one.runs()
-            pickle.loads(pickle.dumps(one))
+            pickle.loads(pickle.dumps(one)).put_range(200, 100, y.Subtree.from_chunks(False, chunks, False))
+            other = y.Session()
+            other.put(300, chunks)
+            other.join(one)
             y.Hasher(bytes(1000)).copy().digest()
             hash_tree = y.HashTree(chunks)
             pickle.loads(pickle.dumps(y.HashIndex(chunks.hashes, chunks.sizes))).numbers(chunks.hashes)

@@ -80,6 +80,12 @@ def known(chunks):
     return session
 
 
+def few():
+    session = y.Session()
+    session.put(COUNT, [(y.Hash(), 1)])
+    return session
+
+
 #: A call, made of what it needs. Making that isn't part of it.
 CALLS = {
     "xorb_hash": lambda chunks: lambda: y.xorb_hash(chunks),
@@ -96,6 +102,9 @@ CALLS = {
     "Session.known_hashes": lambda chunks: known(chunks).known_hashes,
     "Session.root": lambda chunks: (lambda session: lambda: session.root(COUNT))(known(chunks)),
     "Session.push_run": lambda chunks: (lambda session, tree: lambda: session.push_run(0, COUNT, tree))(y.Session(), whole(chunks)),
+    "Session.put_range": lambda chunks: (lambda session, tree: lambda: session.put_range(7, COUNT, tree))(y.Session(), whole(chunks)),
+    "Session.join": lambda chunks: (lambda session, other: lambda: session.join(other))(y.Session(), known(chunks)),
+    "Session.join of few chunks": lambda chunks: (lambda session, other: lambda: session.join(other))(known(chunks), few()),
     "Session.to_json": lambda chunks: known(chunks).to_json,
     "Session.from_json": lambda chunks: (lambda text: lambda: y.Session.from_json(text))(bytes(_interrupts.MANY_BYTES)),
     "Subtree.copy": lambda chunks: whole(chunks).copy,

@@ -32,18 +32,34 @@ class Model:
 
     def put(self, first, chunks):
         """Puts chunks. Returns how many hashes are new, or the error."""
+        return self.put_range(first, chunks) or self.learn({hash_ for hash_, _ in chunks})
+
+    def put_range(self, first, chunks):
+        """Puts chunks, and learns no hash. Returns the error, or None."""
         places = range(first, first + len(chunks))
         if any(place in self.chunks for place in places):
             return y.SessionOverlap
         if places.stop > MAX:
             return y.SessionPositions
-        hashes = {hash_ for hash_, _ in chunks}
         if self.is_too_much(chunks):
             return y.SessionSizes
-        new = len(hashes - self.known)
         self.chunks.update(zip(places, chunks))
+        return None
+
+    def learn(self, hashes):
+        """Learns hashes, if it keeps any. Returns how many are new."""
+        new = len(hashes - self.known)
         self.known |= hashes if self.keeps else set()
         return new
+
+    def join(self, other):
+        """Puts the chunks of another model, and learns its hashes. Returns how many are new, or the error."""
+        if set(self.chunks) & set(other.chunks):
+            return y.SessionOverlap
+        if self.is_too_much(other.chunks.values()):
+            return y.SessionSizes
+        self.chunks.update(other.chunks)
+        return self.learn(other.known)
 
     def keep(self, hashes):
         if hashes and not self.keeps:
@@ -77,8 +93,21 @@ class Step:
         self.bad = rng.random()
         if self.kind == "put" and self.bad < 0.1:
             self.chunks[-1] = (self.chunks[-1][0], MAX)
-        elif self.kind == "put" and self.bad < 0.15:
+        elif self.kind == "range" and self.bad < 0.1:
+            self.chunks = [(self.chunks[0][0], MAX)]
+        elif self.kind in ("put", "range") and self.bad < 0.15:
             self.first = MAX
+        if self.kind == "join":
+            self.make_other(keeps=self.bad < 0.7)
+
+    def make_other(self, keeps):
+        """Makes what is joined: two runs, of which the second is a range, and one more hash if it keeps any."""
+        other, model, last = y.Session(keep_hashes=keeps), Model(keeps), self.chunks[-1:]
+        hashes = [HASHES[self.first]] if keeps else []
+        other.put(self.first, self.chunks), model.put(self.first, self.chunks)
+        other.put_range(self.first + 7, 1, y.Subtree.from_chunks(False, last, False)), model.put_range(self.first + 7, last)
+        other.keep_hashes(hashes), model.keep(hashes)
+        self.other, self.model_of_other = other, model
 
     def broken(self, items):
         yield from items
@@ -92,6 +121,8 @@ class Step:
             "keep": lambda: session.keep_hashes(hashes),
             "broken keep": lambda: session.keep_hashes(self.broken(hashes)),
             "push": lambda: session.push_run(after, after + len(hashes), y.Subtree.from_chunks(False, self.chunks, False)),
+            "range": lambda: session.put_range(self.first, len(hashes), y.Subtree.from_chunks(False, self.chunks, False)),
+            "join": lambda: session.join(self.other),
             "in": lambda: [hash_ in session for hash_ in hashes],
         }
         try:
@@ -106,6 +137,10 @@ class Step:
             return model.keep([hash_ for hash_, _ in self.chunks])
         if self.kind == "push":
             return model.push(after, self.chunks)
+        if self.kind == "range":
+            return model.put_range(self.first, self.chunks)
+        if self.kind == "join":
+            return model.join(self.model_of_other)
         if self.kind == "in":
             return [hash_ in model.known for hash_, _ in self.chunks]
         return Ended
@@ -150,7 +185,7 @@ def exchanged(rng, session, model, path):
     return y.Session.from_json(session.to_json(hashes=with_hashes), keep_hashes=model.keeps), model
 
 
-KINDS = ["put"] * 6 + ["keep", "push", "broken put", "broken keep", "in", "in"]
+KINDS = ["put"] * 4 + ["range", "range", "join", "join", "keep", "push", "broken put", "broken keep", "in", "in"]
 
 
 @pytest.mark.parametrize("seed", range(40))
@@ -167,6 +202,7 @@ def test_drawn_steps(seed, tmp_path, monkeypatch):
         step, after = Step(rng, KINDS), model.after()
         if after < MAX:
             assert step.on(session, after) == step.on_model(model, after), step.kind
+            assert step.kind != "join" or says(step.other, step.model_of_other)
         if rng.random() < 0.5:
             check(session, model)
     check(session, model)
@@ -243,7 +279,8 @@ def test_a_handler_makes_steps_inside_steps(seed, monkeypatch):
         keeps = rng.random() < 0.7
         session, model = y.Session(keep_hashes=keeps), Model(keeps)
         while model.after() < PLACES:
-            outer, inner = Step(rng, ["put", "put", "keep", "push", "in", "in"]), Step(rng, ["put", "put", "keep", "in"])
+            outer = Step(rng, ["put", "put", "range", "join", "keep", "push", "in", "in"])
+            inner = Step(rng, ["put", "put", "range", "join", "keep", "in"])
             handler = Handler(rng.randrange(rng.choice((60, 400))), rng.random() < 0.3)
             model, _ = made_inside(session, model, outer, inner, handler)
             if rng.random() < 0.5:
@@ -253,7 +290,7 @@ def test_a_handler_makes_steps_inside_steps(seed, monkeypatch):
 @pytest.mark.parametrize("raises", [False, True])
 @pytest.mark.parametrize("keeps", [False, True])
 @pytest.mark.parametrize("inner", ["put", "in"])
-@pytest.mark.parametrize("outer", ["put", "keep", "push", "in"])
+@pytest.mark.parametrize("outer", ["put", "range", "join", "keep", "push", "in"])
 def test_a_handler_at_each_instruction(outer, inner, keeps, raises, monkeypatch):
     """Every second time the session is changed again before somebody asks for a hash."""
     rng = random.Random(f"{outer} {inner} {keeps} {raises}")

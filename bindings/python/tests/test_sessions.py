@@ -193,6 +193,149 @@ def test_an_overlap_is_found_by_few_calls(monkeypatch, first, count, taken):
     assert len(made) <= 4
 
 
+def test_a_position_of_two_sessions_is_found_by_few_calls(monkeypatch):
+    one, other, made = session(*range(0, 400, 2), 999_998), session(*range(1001, 1401, 2), 999_998), []
+    for calls in (_library.short, _library.long):
+        for name in _declarations.DECLARATIONS:
+            monkeypatch.setattr(calls, name, lambda *given, call=getattr(calls, name): made.append(call) or call(*given))
+    with pytest.raises(y.SessionOverlap, match="^position 999998 is taken in both sessions$"):
+        one.join(other)
+    assert len(made) <= 20
+
+
+# ---- Parts of a file, as ranges and as sessions
+
+def drawn_parts(rng, count):
+    """The positions below a number as adjacent ranges, none of them empty, in drawn order."""
+    cuts = sorted({0, count, *(rng.randint(0, count) for _ in range(rng.randrange(8)))})
+    parts = [range(start, stop) for start, stop in zip(cuts, cuts[1:])]
+    rng.shuffle(parts)
+    return parts
+
+
+class Index:
+    """A whole number of another type, as NumPy has some."""
+
+    def __init__(self, number):
+        self.number = number
+
+    def __index__(self):
+        return self.number
+
+
+def put_somehow(rng, one, nodes, part):
+    """Puts a part of a list, as chunks or as a range."""
+    chunks, form = pairs(nodes[part.start:part.stop]), rng.choice((int, Index))
+    if rng.random() < 0.3:
+        one.put(part.start, chunks)
+    else:
+        one.put_range(form(part.start), form(len(part)), y.Subtree.from_chunks(False, chunks, False))
+
+
+def joined_in_a_tree(rng, sessions):
+    """Any two sessions are joined, until one is left."""
+    while len(sessions) > 1:
+        one = sessions.pop(rng.randrange(len(sessions)))
+        other = sessions.pop(rng.randrange(len(sessions)))
+        known, before = set(one.known_hashes()), other.to_json()
+        new = one.join(other)
+        assert new == len(set(other.known_hashes()) - known) and other.to_json() == before
+        assert set(one.known_hashes()) == (known | set(other.known_hashes()) if one.keeps_hashes else set())
+        sessions.append(one)
+    return sessions[0]
+
+
+def is_refused(one, call, first):
+    """Whether a call finds the first of its positions taken, and changes nothing."""
+    before = one.copy()
+    with pytest.raises(y.SessionOverlap, match=f"^position {first} is taken"):
+        call()
+    return one == before and one.to_json() == before.to_json()
+
+
+def test_drawn_parts_in_any_order_give_the_file_hash_of_the_whole():
+    """Some as ranges, the others as sessions that are joined in a drawn tree. A part that comes again is refused."""
+    rng = random.Random(48)
+    for _ in range(100):
+        nodes, salt = drawn_list(rng, rng.choice((1, 2, 5, 40, 40, 150))), rng.randbytes(32)
+        parts, whole = drawn_parts(rng, len(nodes)), y.Session(keep_hashes=rng.random() < 0.7)
+        sessions = [whole] + [y.Session(keep_hashes=rng.random() < 0.7) for _ in range(rng.randrange(5))]
+        for part in parts:
+            put_somehow(rng, rng.choice(sessions), nodes, part)
+        one = joined_in_a_tree(rng, sessions)
+        assert one.finish(len(nodes)) == ours(m.file_hash(nodes)) and one.gaps(len(nodes)) == []
+        assert one.finish(len(nodes), salt) == ours(m.file_hash_with_salt(nodes, salt))
+        assert one.num_runs == 1 and one.num_chunks == len(nodes) and one.total_size == sum(size for _, size in nodes)
+        assert one.run(0).subtree == y.Subtree.from_chunks(False, pairs(nodes), False)
+        again, other = rng.choice(parts), y.Session()
+        subtree = y.Subtree.from_chunks(False, pairs(nodes[again.start:again.stop]), False)
+        other.put_range(again.start, len(again), subtree)
+        other.keep_hashes([y.Hash(rng.randbytes(32))])
+        assert is_refused(one, lambda: one.put_range(again.start, len(again), subtree), again.start)
+        assert is_refused(one, lambda: one.join(other), again.start)
+        assert is_refused(other, lambda: other.join(one), again.start)
+        assert is_refused(one, lambda: one.join(one), 0)
+
+
+def test_what_is_left_of_drawn_parts_is_put_where_it_belongs():
+    """Ranges between others become one run with them, and those apart stay so."""
+    rng = random.Random(49)
+    for _ in range(100):
+        nodes = drawn_list(rng, 60)
+        parts = drawn_parts(rng, 60)
+        del parts[rng.randrange(len(parts) + 1):]
+        one, other, plain = y.Session(), y.Session(), y.Session()
+        for part in parts:
+            put_somehow(rng, rng.choice((one, other)), nodes, part)
+            plain.put(part.start, pairs(nodes[part.start:part.stop]))
+        one.join(other)
+        assert one.runs() == plain.runs() and one.gaps(60) == plain.gaps(60) and one.total_size == plain.total_size
+
+
+def test_a_range_teaches_no_hashes():
+    one, chunks = y.Session(), [seeded(1), seeded(2)]
+    assert one.put_range(3, 2, y.Subtree.from_chunks(False, chunks, False)) is None
+    assert list(one.known_hashes()) == [] and one.put(5, chunks) == 2 and one.run(0).end == 7
+    one.put_range(subtree=y.Subtree.from_chunks(False, chunks, False), count=2, first=0)
+    assert one.gaps(8) == [range(2, 3), range(7, 8)]
+    tree = y.Subtree.from_chunks(False, chunks, False)
+    one.put_range(10, 5, tree)  # whether it has so many chunks can't be checked
+    assert one.run(2).end == 15 and one.run(2).subtree == tree and one.num_chunks == 11
+
+
+def test_ranges_at_the_ends_of_what_is_possible():
+    one, other, tree = y.Session(), y.Session(), y.Subtree.from_chunks(False, [ONE], False)
+    one.put_range(0, 1, tree), one.put_range(MAX - 1, 1, tree), other.put_range(1, MAX - 2, tree)
+    assert one.join(other) == 0 and one.gaps(MAX) == [] and one.num_chunks == MAX and one.total_size == 3 and one.num_runs == 1
+    with pytest.raises(y.SessionOverlap, match="^position 0 is taken$"):
+        one.put_range(0, MAX, tree)
+    with pytest.raises(y.SessionOverlap, match=f"^position {MAX - 1} is taken in both sessions$"):
+        session(MAX - 1).join(one)
+
+
+def test_what_a_session_learns_of_another():
+    """The count is that of the hashes which the other knows and this one doesn't. One that keeps none takes each for new."""
+    def known(*numbers, **options):
+        made = y.Session(**options)
+        made.put(100 * len(numbers), [seeded(number) for number in numbers])
+        return made
+
+    one = known(1, 2)
+    one.keep_hashes([y.Hash.random_from_seed(5)])
+    assert one.join(known(2, 3, 5, 9)) == 2 and len(one.known_hashes()) == 5
+    assert one.join(known(7, 8, 9, 7, 7, keep_hashes=False)) == 0 and len(one.known_hashes()) == 5
+    none = known(1, keep_hashes=False)
+    assert none.join(one) == 5 and none.num_runs == 4 and len(none.known_hashes()) == 0 and not none.keeps_hashes
+    assert y.Session().join(none) == 0 and one.join(y.Session()) == 0 and len(one.known_hashes()) == 5
+
+
+def test_a_session_without_chunks_joined_with_itself():
+    one = y.Session()
+    assert one.join(one) == 0 and one == y.Session()
+    one.keep_hashes([Z])
+    assert one.join(one) == 0 and list(one.known_hashes()) == [Z] and one.num_runs == 0
+
+
 # ---- JSON
 
 def two_runs():

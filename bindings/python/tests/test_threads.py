@@ -156,6 +156,47 @@ def test_one_session_shared():
     assert session.num_runs == 1 and session.root(8000) == y.xorb_hash(chunks)
 
 
+def test_parts_put_and_joined_by_threads():
+    """Some threads put ranges, and the others join sessions."""
+    chunks = block(5, 8000)
+    session = y.Session(keep_hashes=False)
+
+    def put(thread):
+        for at in range(100 * thread, 8000, 800):
+            if at % 200:
+                session.put_range(at, 100, y.Subtree.from_chunks(False, chunks[at:at + 100], False))
+            else:
+                other = y.Session()
+                other.put(at, chunks[at:at + 100])
+                assert session.join(other) == 100 and other.num_chunks == 100
+            with pytest.raises(y.SessionOverlap, match=f"^position {at} is taken"):
+                session.put_range(at, 100, y.Subtree.from_chunks(False, chunks[at:at + 100], False))
+
+    run(*(lambda thread=thread: put(thread) for thread in range(8)))
+    assert session.num_runs == 1 and session.root(8000) == y.xorb_hash(chunks) and session.num_chunks == 8000
+
+
+def test_two_sessions_joined_both_ways():
+    """Each of them has a part. Once one has both parts, they have a part in common."""
+    def halves():
+        one, other = y.Session(), y.Session()
+        one.put(0, block(6, 10)), other.put(10, block(7, 10))
+        return one, other
+
+    pairs = [halves() for _ in range(300)]
+    joined = []
+
+    def join(turned):
+        for one, other in pairs:
+            try:
+                joined.append(other.join(one) if turned else one.join(other))
+            except y.SessionOverlap:
+                pass
+
+    run(*(lambda turned=turned: join(turned) for turned in (False, True, False, True)))
+    assert joined == 300 * [10] and {max(one.num_chunks, other.num_chunks) for one, other in pairs} == {20}
+
+
 def test_one_hash_tree_and_one_opened_range_shared():
     data = [bytes([number]) * 1000 for number in range(200)]
     tree = y.HashTree([(y.data_hash(it), len(it)) for it in data])
@@ -218,6 +259,10 @@ def sessions():
     return one, other
 
 
+def two_sessions():
+    return sessions()
+
+
 DATA = bytes(20_000)
 CHUNKS_OF_DATA = [(y.data_hash(DATA), len(DATA)), (y.data_hash(b"abc"), 3)]
 
@@ -251,6 +296,12 @@ def hashers_of_files():
     return (y.FileHasher(b"abc"),)
 
 
+def refused(call, *arguments):
+    """Makes a call that finds a position taken."""
+    with pytest.raises(y.SessionOverlap):
+        call(*arguments)
+
+
 #: How the objects of a call are made, and calls with them.
 USES = {
     subtrees: [
@@ -261,14 +312,20 @@ USES = {
         lambda one, other: other.merge(one), lambda one, other: one.merge_counted(other), lambda one, other: one + other,
         lambda one, other: y.Subtree.merge_all([one, other]), lambda one, other: one.copy(), lambda one, other: one == other,
         lambda one, other: one.to_json(), lambda one, other: one.to_flat(), lambda one, other: pickle.dumps(one),
-        lambda one, other: repr(one), lambda one, other: one.svg(), lambda one, other: y.Session().push_run(0, 1, one)],
+        lambda one, other: repr(one), lambda one, other: one.svg(), lambda one, other: y.Session().push_run(0, 1, one),
+        lambda one, other: y.Session().put_range(0, 1, one)],
     sessions: [
         lambda one, other: one.put(20, block(3, 3)), lambda one, other: one.taken(3), lambda one, other: one.num_runs,
         lambda one, other: one.num_chunks, lambda one, other: one.total_size, lambda one, other: one.gaps(70),
         lambda one, other: one.run(0), lambda one, other: one.runs(), lambda one, other: one.run_from(0),
         lambda one, other: list(one), lambda one, other: other.copy(), lambda one, other: one.known_hashes(),
         lambda one, other: one.push_run(*other.run_from(0)), lambda one, other: one.keep_hashes(other.known_hashes()),
+        lambda one, other: one.put_range(20, 10, other.run(0).subtree),
+        lambda one, other: refused(one.put_range, 29, 2, other.run(0).subtree),
         lambda one, other: one.to_json(), lambda one, other: pickle.dumps(one), lambda one, other: repr(one)],
+    two_sessions: [
+        lambda one, other: one.join(other), lambda one, other: other.join(one), lambda one, other: refused(one.join, one),
+        lambda one, other: refused(other.copy().join, other), lambda one, other: y.Session().join(other)],
     trees: [
         lambda tree: tree.root, lambda tree: tree.file_hash(), lambda tree: tree.num_chunks, lambda tree: tree.total_size,
         lambda tree: tree.chunks_at(0, 7), lambda tree: tree.bytes_of(0, 2), lambda tree: tree.proof(0, 2),
@@ -367,7 +424,8 @@ class Ordered(Noted):
 
 
 @pytest.mark.parametrize("turned", [False, True])
-@pytest.mark.parametrize("make, number", [(make, number) for make in (subtrees, two_trees, indexes) for number in range(len(USES[make]))])
+@pytest.mark.parametrize("make, number", [
+    (make, number) for make in (subtrees, two_sessions, two_trees, indexes) for number in range(len(USES[make]))])
 def test_a_call_takes_two_locks_in_one_order(make, number, turned):
     """Whichever object comes first in it. Else two threads might wait for each other."""
     first, last = items = sorted(make(), key=id)
@@ -722,7 +780,8 @@ def test_the_text_of_a_subtree_is_of_one_moment(monkeypatch):
 
 @pytest.mark.parametrize("change", [
     lambda session: session.put(5, block(8, 1)), lambda session: session.push_run(5, 6, y.Subtree.from_chunks(False, block(8, 1), False)),
-    lambda session: session.keep_hashes([y.Hash()])], ids=["put", "push_run", "keep_hashes"])
+    lambda session: session.put_range(5, 1, y.Subtree.from_chunks(False, block(8, 1), False)), lambda session: session.join(sessions()[0]),
+    lambda session: session.keep_hashes([y.Hash()])], ids=["put", "push_run", "put_range", "join", "keep_hashes"])
 def test_each_change_by_a_handler_is_seen(change):
     """Whoever reads runs one after another looks whether something was changed meanwhile."""
     session = y.Session()

@@ -10,7 +10,7 @@ from typing import Callable, ClassVar, Iterable, Iterator, List, Optional, Tuple
 from ._accounts import memory_of_session, token_of
 from ._chunks import Chunks, ChunksLike
 from ._declarations import STATUSES
-from ._errors import InvalidArguments, SessionGap, SessionOverlap, SessionSizes, YurewhaError, but_got, error_of
+from ._errors import InvalidArguments, SessionGap, SessionOverlap, SessionSizes, YurewhaError, but_got, counted, error_of
 from ._guard import Handle, both_locked
 from ._hash import Hash, HashLike, checked_32, checked_bool, checked_text, checked_u64, own_bytes, raw_of
 from ._hash_index import AT_ONCE, HashIndex
@@ -51,6 +51,13 @@ def _gap(gaps: List[range], total: int, beyond: Optional[Span]) -> SessionGap:
     error = SessionGap(text)
     error.position = position
     return error
+
+
+def _fault_of(status: int, what: str = "invalid arguments") -> YurewhaError:
+    """Returns the error of a call that puts chunks. `what` is the text of `InvalidArguments`."""
+    if status == STATUSES["YUREWHA_SIZES"]:
+        return SessionSizes("the sizes of all chunks add up to more than 2^64 - 1")
+    return error_of(status, what)
 
 
 @final
@@ -199,13 +206,15 @@ class Session(Handle):
             self._changes += 1
             status = calls_for(count, LONG_CHUNKS).yurewha_session_put(self._handle, place, packed, count, out)
             if status == STATUSES["YUREWHA_SESSION_OVERLAP"]:
-                run = None if self.taken(place) else self._run_from(place)
-                raise SessionOverlap(f"position {run[0] if run else place} is taken")
-        if status == STATUSES["YUREWHA_SIZES"]:
-            raise SessionSizes("the sizes of all chunks add up to more than 2^64 - 1")
+                raise SessionOverlap(f"position {self._first_taken(place)} is taken")
         if status:
-            raise error_of(status)
+            raise _fault_of(status)
         return out.value
+
+    def _first_taken(self, place: int) -> int:
+        """Returns the first position from one on that is taken. There is such a position."""
+        run = None if self.taken(place) else self._run_from(place)
+        return run[0] if run else place
 
     def _put_in_pieces(self, place: int, packed: bytes, count: int) -> Optional[int]:
         """Puts many chunks into an empty session in pieces, which takes less memory. Returns None, and changes nothing, if it can't.
@@ -238,6 +247,80 @@ class Session(Handle):
             new += out.value if seen is None else seen.add_all(Chunks._of(piece).hashes)
             place += count
         return new
+
+    def put_range(self, first: int, count: int, subtree: Subtree) -> None:
+        """Puts a range of `count` chunks at the positions from `first` on, as `put` puts chunks. `subtree` is that of its chunks.
+
+        So a file can be hashed by many machines. Each sends the subtree of its part, and they may come in any order. The session doesn't
+        know the hashes of the chunks before these are kept or put. The call can't check that there are `count` chunks. If there aren't,
+        the root and the file hash are those of the chunks of the subtrees, and all else goes by the positions.
+
+        Raises `InvalidArguments` if `count` is 0 or the subtree is marked at an end. Otherwise raises `SessionOverlap` if a position is
+        taken. Otherwise raises `SessionPositions` if `first` plus `count` is more than 2^64 - 1. Otherwise raises `SessionSizes` if the
+        sizes of all chunks add up to more than 2^64 - 1. After an error nothing has changed.
+
+        >>> session, part = Session(), Subtree.from_chunks(False, [(Hash(), 1), (Hash(), 1)], False)
+        >>> session.put_range(2, 2, part); session.put_range(0, 2, part)
+        >>> session.num_chunks, session.gaps(5)
+        (4, [range(4, 5)])
+        """
+        place, number = checked_u64(first, "position"), checked_u64(count, "count")
+        if not isinstance(subtree, Subtree):
+            raise TypeError(but_got("the range must be a Subtree", type(subtree).__name__))
+        interruptible(lambda: self._put_range(place, number, subtree), subtree._has_many_nodes(), self, subtree)
+
+    def _put_range(self, place: int, count: int, subtree: Subtree) -> None:
+        one, other = both_locked(self, subtree)
+        with one, other:
+            self._changes += 1
+            calls = calls_for(subtree._nodes(), LONG_NODES)
+            status = calls.yurewha_session_put_range(self._handle, place, count, subtree._handle)
+            if status == STATUSES["YUREWHA_SESSION_OVERLAP"]:
+                raise SessionOverlap(f"position {self._first_taken(place)} is taken")
+        if status:
+            rule = "the range must have a chunk, and no mark at an end"
+            raise _fault_of(status, but_got(rule, f"{counted(count, 'chunk')} from position {place} on"))
+
+    def join(self, other: Session) -> int:
+        """Puts all runs of another session at their positions. Returns how many hashes that it knows are new, and learns these.
+
+        So a file can be hashed by many machines, each with a session of its own. Of all sessions any two may be joined first. `other`
+        doesn't change. A session that keeps no hashes learns none, and takes each for new.
+
+        Raises `SessionOverlap` if a position is taken in both, as it is if a session with chunks is joined with itself. Otherwise raises
+        `SessionSizes` if the sizes of all chunks add up to more than 2^64 - 1. After an error nothing has changed.
+
+        >>> one, other = Session(), Session()
+        >>> _ = one.put(0, [(Hash(), 1)]), other.put(1, [(Hash(), 1), (Hash.random_from_seed(1), 1)])
+        >>> one.join(other), one.gaps(4), other.gaps(4)
+        (1, [range(3, 4)], [range(0, 1), range(3, 4)])
+        """
+        if not isinstance(other, Session):
+            raise TypeError(but_got("a Session must be joined with a Session", type(other).__name__))
+        number = sum(item._num_known() + _NODES_OF_RUN * item.num_runs for item in (self, other))
+        return interruptible(lambda: self._join(other), number >= MANY_NODES, self, other)
+
+    def _join(self, other: Session) -> int:
+        out = ctypes.c_uint64()
+        first, second = both_locked(self, other)
+        with first, second:
+            if other is self:  # a call needs two different handles
+                other = self.copy()
+            self._changes += 1
+            status = long.yurewha_session_join(self._handle, other._handle, out)
+            if status == STATUSES["YUREWHA_SESSION_OVERLAP"]:
+                raise SessionOverlap(f"position {self._first_shared(other)} is taken in both sessions")
+        if status:
+            raise _fault_of(status)
+        return out.value
+
+    def _first_shared(self, other: Session) -> int:
+        """Returns the first position that is taken in two sessions. There is such a position."""
+        place, found = -1, 0
+        while place != found:
+            place = self._first_taken(found)
+            found = other._first_taken(place)
+        return place
 
     def __contains__(self, hash_: HashLike) -> bool:
         """Returns whether the session knows a hash: whether a put had it, or it was kept. A session that keeps none knows none.
