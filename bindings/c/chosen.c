@@ -72,6 +72,33 @@ static void list_hashes(void) { EXPECT_STATUS(YUREWHA_DONE, yurewha_session_know
 
 static void copy(void) { EXPECT_STATUS(YUREWHA_DONE, yurewha_session_copy(&it.session, &it.copy)); }
 
+/* A session of all hashes, and another one of none. */
+static void hashes_and_none(void)
+{
+    keep_hashes();
+    EXPECT_STATUS(YUREWHA_DONE, yurewha_session_new(&it.copy));
+}
+
+static void join(void)
+{
+    uint64_t fresh = 0;
+    EXPECT_STATUS(YUREWHA_DONE, yurewha_session_join(&it.copy, &it.session, &fresh));
+    EXPECT(fresh == it.count);
+}
+
+static void copy_of_hashes(void)
+{
+    keep_hashes();
+    copy();
+}
+
+static void join_copy(void)
+{
+    uint64_t fresh = 1;
+    EXPECT_STATUS(YUREWHA_DONE, yurewha_session_join(&it.copy, &it.session, &fresh));
+    EXPECT(fresh == 0);
+}
+
 static void to_json(void)
 {
     const size_t room = 200 * it.count + 4096;
@@ -115,6 +142,8 @@ static const struct {
     {"session_knows_each", keep_hashes, knows_each},
     {"session_known_hashes", keep_hashes, list_hashes},
     {"session_copy", keep_hashes, copy},
+    {"session_join", hashes_and_none, join},
+    {"session_join of known ones", copy_of_hashes, join_copy},
     {"session_to_json", keep_hashes, to_json},
     {"session_from_json", text_of_hashes, from_json},
     {"hash_index_insert", none, insert},

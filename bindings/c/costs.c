@@ -132,6 +132,52 @@ static void push_runs(struct runs *it)
         EXPECT_STATUS(YUREWHA_DONE, yurewha_session_push_run(&it->other, 2 * i, 2 * i + 1, &it->range));
 }
 
+static void put_range(yurewha_session *session, uint64_t position, yurewha_subtree *range)
+{
+    EXPECT_STATUS(YUREWHA_DONE, yurewha_session_put_range(session, position, 1, range));
+}
+
+static void put_ranges(struct runs *it)
+{
+    for (size_t i = 0; i < it->count; i++)
+        put_range(&it->other, 2 * i, &it->range);
+}
+
+/* Each range joins two runs. */
+static void put_ranges_between(struct runs *it)
+{
+    for (size_t i = 0; i + 1 < it->count; i++)
+        put_range(&it->full, 2 * i + 1, &it->range);
+}
+
+static void join(yurewha_session *session, yurewha_session *other)
+{
+    uint64_t fresh = 0;
+    EXPECT_STATUS(YUREWHA_DONE, yurewha_session_join(session, other, &fresh));
+}
+
+/* Sessions of one run, which are joined one by one, and of which each joins two runs. */
+static void join_one_by_one(struct runs *it)
+{
+    yurewha_session one = {0};
+    for (size_t i = 0; i + 1 < it->count; i++) {
+        EXPECT_STATUS(YUREWHA_DONE, yurewha_session_new(&one));
+        put(&one, 2 * i + 1, &it->chunks[i]);
+        join(&it->full, &one);
+    }
+    yurewha_session_free(&one);
+}
+
+static void join_all(struct runs *it) { join(&it->other, &it->full); }
+
+/* Each run of one session is right after one of the other. */
+static void join_between(struct runs *it)
+{
+    for (size_t i = 0; i < it->count; i++)
+        put_range(&it->other, 2 * i + 1, &it->range);
+    join(&it->full, &it->other);
+}
+
 static void runs_by_index(struct runs *it)
 {
     uint64_t first = 0;
@@ -194,6 +240,11 @@ static const struct {
     {"put before a run", puts_before, 6, 900},
     {"put without hashes", puts_without_hashes, 9, 1010},
     {"push_run", push_runs, 3, 330},
+    {"put_range", put_ranges, 5, 500},
+    {"put_range between two runs", put_ranges_between, 5, 500},
+    {"join of one run", join_one_by_one, 30, 3000},
+    {"join of many runs", join_all, 9, 1500},
+    {"join between many runs", join_between, 15, 2500},
     {"run", runs_by_index, 3, 200},
     {"run_from", runs_from, 3, 200},
     {"copy", copy, 3, 400},

@@ -30,7 +30,7 @@ static struct list {
     yurewha_chunk *plain; /* without a natural cut */
     yurewha_hash root;
     yurewha_subtree front, back, *ranges;
-    yurewha_session session;
+    yurewha_session session, other;
     yurewha_hash_index index;
     yurewha_hash *hashes; /* of the chunks */
     uint64_t *numbers;
@@ -67,6 +67,7 @@ static void unmake(void)
     yurewha_subtree_free(&it.front);
     yurewha_subtree_free(&it.back);
     yurewha_session_free(&it.session);
+    yurewha_session_free(&it.other);
     yurewha_hash_index_free(&it.index);
     yurewha_hash_tree_free(&it.tree);
     yurewha_opened_range_free(&it.opened);
@@ -309,6 +310,27 @@ static void session_of_hashes(void)
 {
     session_of_none();
     keep_hashes();
+}
+
+/* A session without chunks, and a range of the plain list. */
+static void session_and_range(void)
+{
+    it.front = range_of(it.plain, 0, it.count, false, false);
+    session_of_none();
+}
+
+/* A session of one run, and another one without chunks, or with those that follow. */
+static void run_and_none(void)
+{
+    one_run();
+    EXPECT_STATUS(YUREWHA_DONE, yurewha_session_new(&it.other));
+}
+
+static void two_runs(void)
+{
+    uint64_t fresh = 0;
+    run_and_none();
+    EXPECT_STATUS(YUREWHA_DONE, yurewha_session_put(&it.other, it.count, it.chunks, it.count, &fresh));
 }
 
 /* Without a run. */
@@ -617,6 +639,12 @@ static void cut_file(void)
 }
 
 static void put_all(void) { put(0, it.chunks, it.count); }
+static void put_range(void) { EXPECT_STATUS(YUREWHA_DONE, yurewha_session_put_range(&it.session, 0, it.count, &it.front)); }
+static void join(void)
+{
+    uint64_t fresh = 0;
+    EXPECT_STATUS(YUREWHA_DONE, yurewha_session_join(&it.other, &it.session, &fresh));
+}
 static void session_to_json(void)
 {
     EXPECT_STATUS(YUREWHA_DONE, yurewha_session_to_json(&it.session, true, it.text, it.length, &it.length));
@@ -683,6 +711,9 @@ static const struct {
     {"session_next_gap", many_runs, next_gap, 0, 0},
     {"session_knows", many_runs, knows, 0, 0},
     {"session_put", session_of_none, put_all, 0, 520},
+    {"session_put_range", session_and_range, put_range, 0, 60},
+    {"session_join", run_and_none, join, 0, 800},
+    {"session_join of known hashes", two_runs, join, 0, 400},
     {"session_keep_hashes", session_of_none, keep_hashes, 0, 480},
     {"session_keep_hashes of known ones", session_of_hashes, keep_hashes, 0, 60},
     {"session_knows_each", session_of_hashes, knows_each, 0, 0},

@@ -478,6 +478,44 @@ static void session_push_run(void)
     }
 }
 
+/* A short range right before a long run, right after it and far from it, and long ranges, of a session of few runs and of one of many. */
+static void session_put_range(void)
+{
+    const uint64_t free_of_run[] = {3 * FAR - 1, 3 * FAR + 1, 5 * FAR}, free_for_many[] = {3 * FAR + 2, 6 * FAR};
+    for (size_t i = 0; i < 3; i++) {
+        EXPECT_STATUS(YUREWHA_DONE, yurewha_session_put_range(&it.run, free_of_run[i], 1, &it.one));
+        EXPECT_STATUS(YUREWHA_DONE, yurewha_session_put_range(&it.runs, free_of_run[i], 1, &it.one));
+    }
+    for (size_t i = 0; i < 2; i++) {
+        EXPECT_STATUS(YUREWHA_DONE, yurewha_session_put_range(&it.run, free_for_many[i], LONGEST, &it.whole));
+        EXPECT_STATUS(YUREWHA_DONE, yurewha_session_put_range(&it.runs, free_for_many[i], LONGEST, &it.whole));
+    }
+    EXPECT_STATUS(YUREWHA_DONE, yurewha_session_put_range(&it.runs, 3, 1, &it.one));
+}
+
+/* A long run, and many runs, each to a session without chunks, to one of few runs and to one of many. */
+static void session_join(void)
+{
+    yurewha_session long_run = {0}, many_runs = {0}, joined = {0};
+    yurewha_session *to[] = {&joined, &it.run, &it.runs};
+    uint64_t fresh = 0;
+    EXPECT_STATUS(YUREWHA_DONE, yurewha_session_new(&long_run));
+    EXPECT_STATUS(YUREWHA_DONE, yurewha_session_new(&many_runs));
+    put(&long_run, 8 * FAR, it.chunks, LONGEST);
+    for (size_t i = 0; i < LONGEST; i++)
+        push(&many_runs, 9 * FAR + 2 * i, 9 * FAR + 2 * i + 1, &it.one);
+    EXPECT_STATUS(YUREWHA_DONE, yurewha_session_new(&joined));
+    for (size_t i = 0; i < 3; i++) {
+        EXPECT_STATUS(YUREWHA_DONE, yurewha_session_join(to[i], &long_run, &fresh));
+        EXPECT(fresh == (i == 0 ? LONGEST : 0));
+        EXPECT_STATUS(YUREWHA_DONE, yurewha_session_join(to[i], &many_runs, &fresh));
+        EXPECT(fresh == 0);
+    }
+    yurewha_session_free(&long_run);
+    yurewha_session_free(&many_runs);
+    yurewha_session_free(&joined);
+}
+
 /* Many at once, and one to many, beside a long run and beside many runs. */
 static void session_keep_hashes(void)
 {
@@ -563,8 +601,9 @@ static const struct call of_file[] = {
 };
 static const struct call of_sessions[] = {
     ROW(session_new), ROW(session_new_without_hashes), ROW(session_put), ROW(session_run), ROW(session_run_from), ROW(session_root),
-    ROW(session_finish), ROW(session_finish_with_salt), ROW(session_copy), ROW(session_push_run), ROW(session_keep_hashes),
-    ROW(session_known_hashes), ROW(session_to_json), ROW(session_from_json), ROW(hash_index_new), ROW(hash_index_insert),
+    ROW(session_finish), ROW(session_finish_with_salt), ROW(session_copy), ROW(session_push_run), ROW(session_put_range),
+    ROW(session_keep_hashes), ROW(session_join), ROW(session_known_hashes), ROW(session_to_json), ROW(session_from_json),
+    ROW(hash_index_new), ROW(hash_index_insert),
 };
 
 static void make_calls(const struct call *calls, size_t count)

@@ -398,6 +398,33 @@ static void far_positions(void)
     free(chunks);
 }
 
+/* Ranges at the last positions, and at all before them. */
+static void far_ranges(void)
+{
+    yurewha_chunk *chunks = list_of(NULL, NODES);
+    yurewha_session session = {0};
+    yurewha_subtree range = range_of(chunks, 0, NODES, false, false), twice = {0}, found = {0};
+    uint64_t begin = 1, end = 0;
+    EXPECT_STATUS(YUREWHA_DONE, yurewha_subtree_clone(&range, &twice));
+    EXPECT_STATUS(YUREWHA_DONE, yurewha_subtree_merge_into(&twice, &range));
+    EXPECT_STATUS(YUREWHA_DONE, yurewha_session_new(&session));
+    EXPECT_STATUS(YUREWHA_SESSION_POSITIONS, yurewha_session_put_range(&session, UINT64_MAX, UINT64_MAX, &range));
+    EXPECT_STATUS(YUREWHA_DONE, yurewha_session_put_range(&session, UINT64_MAX - 1, 1, &range));
+    EXPECT_STATUS(YUREWHA_SESSION_OVERLAP, yurewha_session_put_range(&session, 0, UINT64_MAX, &range));
+    EXPECT_STATUS(YUREWHA_DONE, yurewha_session_put_range(&session, 0, UINT64_MAX - 1, &range));
+    EXPECT_STATUS(YUREWHA_DONE, yurewha_session_run_from(&session, 0, &begin, &end, &found));
+    EXPECT(begin == 0 && end == UINT64_MAX && same_subtree(&found, &twice));
+    EXPECT_STATUS(YUREWHA_DONE, yurewha_session_new(&session));
+    EXPECT_STATUS(YUREWHA_DONE, yurewha_session_put_range(&session, 0, UINT64_MAX, &range));
+    EXPECT_STATUS(YUREWHA_DONE, yurewha_session_run_from(&session, UINT64_MAX - 1, &begin, &end, &found));
+    EXPECT(begin == 0 && end == UINT64_MAX && same_subtree(&found, &range));
+    yurewha_subtree_free(&found);
+    yurewha_subtree_free(&twice);
+    yurewha_subtree_free(&range);
+    yurewha_session_free(&session);
+    free(chunks);
+}
+
 static void many_hashes(void)
 {
     yurewha_hash *hashes = block(HASHES * sizeof *hashes);
@@ -564,6 +591,7 @@ static const struct {
     {"session_put first, session_taken position, session_next_gap position, session_next_gap total, session_run_from position, "
      "session_run index, session_push_run first, session_push_run end, session_root total, session_finish total, "
      "session_finish_with_salt total", far_positions},
+    {"session_put_range first, session_put_range count", far_ranges},
     {"session_keep_hashes count, session_knows_each count, session_knows_each known_count, session_known_hashes count, "
      "session_from_json length", many_hashes},
     {"hash_index_insert count, hash_index_insert number_count, hash_index_find count, hash_index_find found_count, "

@@ -1,4 +1,5 @@
-/* The gaps of sessions, and chunks that are put in any order. driver/ has what else a session tells. */
+/* The gaps of sessions, chunks that are put in any order, and parts of a list that are put together in any order. driver/ has what else a
+ * session tells. */
 #include "harness.h"
 
 #define NEVER 12345
@@ -24,7 +25,7 @@ static void gaps_of(yurewha_session *session)
         }
 }
 
-/* Sessions of up to three runs, which are put or pushed. */
+/* Sessions of up to three runs, which are put, pushed, put as ranges, or joined. */
 static void gaps(void)
 {
     static const struct {
@@ -44,20 +45,27 @@ static void gaps(void)
     };
     yurewha_chunk *chunks = list_of(NULL, 60);
     yurewha_subtree range = range_of(chunks, 0, 2, false, false);
-    for (size_t i = 0; i < 2 * LENGTH(rows); i++) {
-        yurewha_session session = {0};
+    static const char *const ways[] = {"put", "pushed", "put as ranges", "joined"};
+    for (size_t i = 0; i < LENGTH(ways) * LENGTH(rows); i++) {
+        const size_t way = i % LENGTH(ways), place = i / LENGTH(ways);
+        yurewha_session session = {0}, other = {0};
         uint64_t fresh = 0;
-        row("gaps of session %zu, %s", i / 2, i % 2 != 0 ? "pushed" : "put");
+        row("gaps of session %zu, %s", place, ways[way]);
         EXPECT_STATUS(YUREWHA_DONE, yurewha_session_new(&session));
         for (size_t j = 0; j < LENGTH(rows[0]); j++) {
-            const uint64_t first = rows[i / 2][j].first, end = rows[i / 2][j].end;
-            if (first < end && i % 2 != 0)
+            const uint64_t first = rows[place][j].first, end = rows[place][j].end;
+            EXPECT_STATUS(YUREWHA_DONE, yurewha_session_new(&other));
+            if (first < end && way == 1)
                 EXPECT_STATUS(YUREWHA_DONE, yurewha_session_push_run(&session, first, end, &range));
+            else if (first < end && way == 2)
+                EXPECT_STATUS(YUREWHA_DONE, yurewha_session_put_range(&session, first, end - first, &range));
             else
-                EXPECT_STATUS(YUREWHA_DONE, yurewha_session_put(&session, first, chunks, (size_t)(end - first), &fresh));
+                EXPECT_STATUS(YUREWHA_DONE, yurewha_session_put(way == 3 ? &other : &session, first, chunks, (size_t)(end - first), &fresh));
+            EXPECT_STATUS(YUREWHA_DONE, yurewha_session_join(&session, &other, &fresh));
         }
         gaps_of(&session);
         yurewha_session_free(&session);
+        yurewha_session_free(&other);
     }
     yurewha_subtree_free(&range);
     free(chunks);
@@ -98,8 +106,63 @@ static void orders(void)
     }
 }
 
+/* The parts of a list in sessions of their own, of which each second one is put as a range. Each half is joined to the other one, from the
+ * front to the back or back to front, until there is one session. */
+static void parts_of(const struct list_row *it, size_t size, bool to_back)
+{
+    const size_t parts = (it->count + size - 1) / size;
+    yurewha_chunk *chunks = list_of(it->pattern, it->count);
+    yurewha_session *sessions = block(parts * sizeof *sessions);
+    yurewha_hash wanted, hash;
+    uint64_t fresh = 0, sum = 0;
+    size_t known = 0;
+    memset(sessions, 0, parts * sizeof *sessions);
+    for (size_t i = 0; i < parts; i++) {
+        const size_t first = i * size, length = it->count - first < size ? it->count - first : size;
+        yurewha_subtree range = range_of(chunks, first, first + length, false, false);
+        EXPECT_STATUS(YUREWHA_DONE, yurewha_session_new(&sessions[i]));
+        if (i % 2 != 0)
+            EXPECT_STATUS(YUREWHA_DONE, yurewha_session_put_range(&sessions[i], first, length, &range));
+        else
+            EXPECT_STATUS(YUREWHA_DONE, yurewha_session_put(&sessions[i], first, chunks + first, length, &fresh));
+        sum += i % 2 != 0 ? 0 : length;
+        yurewha_subtree_free(&range);
+    }
+    for (size_t count = parts, half; count > 1; count = half) {
+        half = (count + 1) / 2;
+        for (size_t i = 0; i + half < count; i++) {
+            yurewha_session front = sessions[i], back = sessions[i + half];
+            sessions[i] = to_back ? back : front;
+            EXPECT_STATUS(YUREWHA_DONE, yurewha_session_join(&sessions[i], to_back ? &front : &back, &fresh));
+            EXPECT_STATUS(YUREWHA_SESSION_OVERLAP, yurewha_session_join(&sessions[i], to_back ? &front : &back, &fresh));
+            yurewha_session_free(to_back ? &front : &back);
+        }
+    }
+    EXPECT_STATUS(YUREWHA_DONE, yurewha_session_num_known_hashes(&sessions[0], &known));
+    EXPECT(known == sum);
+    EXPECT_STATUS(YUREWHA_DONE, yurewha_file_hash(chunks, it->count, &wanted));
+    EXPECT_STATUS(YUREWHA_DONE, yurewha_session_finish(&sessions[0], it->count, &hash));
+    EXPECT(same_hash(&hash, &wanted));
+    yurewha_session_free(&sessions[0]);
+    free(sessions);
+    free(chunks);
+}
+
+static void parts(void)
+{
+    static const size_t sizes[] = {1, 7, 50};
+    for (size_t i = 0; i < LENGTH(list_rows) * LENGTH(sizes) * 2; i++) {
+        const struct list_row *it = &list_rows[i / (2 * LENGTH(sizes))];
+        const size_t size = sizes[i / 2 % LENGTH(sizes)];
+        row("parts of %zu chunks by %zu, %s", it->count, size, i % 2 != 0 ? "to the back" : "to the front");
+        if (it->count > 0)
+            parts_of(it, size, i % 2 != 0);
+    }
+}
+
 void test_sessions(void)
 {
     gaps();
     orders();
+    parts();
 }

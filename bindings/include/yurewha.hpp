@@ -602,6 +602,23 @@ public:
         detail::check(yurewha_session_put(get(), first, chunks.data(), chunks.size(), &new_hashes));
         return new_hashes;
     }
+    // Puts a copy of a range of `count` chunks at the positions from `first` on.
+    void put_range(std::uint64_t first, std::uint64_t count, const subtree &range)
+    {
+        yurewha_subtree copy = range.copied();
+        detail::check(yurewha_session_put_range(get(), first, count, &copy));
+    }
+    // Puts copies of all runs of another session. Returns how many of the hashes that it knows are new. It may be this object: if that has
+    // chunks, YUREWHA_SESSION_OVERLAP is thrown.
+    std::uint64_t join(const session &other)
+    {
+        if (this == &other)
+            return join(session(other));
+        yurewha_session copy = other.copied();
+        std::uint64_t new_hashes = 0;
+        detail::check(yurewha_session_join(get(), &copy, &new_hashes));
+        return new_hashes;
+    }
     void push_run(std::uint64_t first, std::uint64_t end, const subtree &range)
     {
         yurewha_subtree copy = range.copied();

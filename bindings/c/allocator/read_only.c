@@ -141,7 +141,7 @@ static void read_subtree(struct answers *to)
 
 static void read_session(struct answers *to)
 {
-    yurewha_session copy = {0};
+    yurewha_session copy = {0}, joined = {0};
     yurewha_subtree run = {0};
     bool taken = false;
     size_t runs = 0, known = 0;
@@ -168,7 +168,12 @@ static void read_session(struct answers *to)
     EXPECT(yurewha_session_new_without_hashes(&copy) == YUREWHA_DONE);
     EXPECT(yurewha_session_copy(SESSION, &copy) == YUREWHA_DONE);
     EXPECT(yurewha_session_push_run(&copy, 2 * CHUNKS, 2 * CHUNKS + 1, OTHER) == YUREWHA_DONE);
+    EXPECT(yurewha_session_new(&joined) == YUREWHA_DONE);
+    EXPECT(yurewha_session_put_range(&joined, CHUNKS, 80, OTHER) == YUREWHA_DONE);
+    EXPECT(yurewha_session_join(&joined, SESSION, &total) == YUREWHA_DONE && total == CHUNKS);
+    EXPECT(yurewha_session_join(&joined, SESSION, &total) == YUREWHA_SESSION_OVERLAP);
     yurewha_session_free(&copy);
+    yurewha_session_free(&joined);
     yurewha_subtree_free(&run);
 }
 

@@ -300,11 +300,32 @@ static void sessions()
     yu::session light = yu::session::without_hashes();
     MUST(light.put(0, chunks) == 300 && !light.keeps_hashes() && light.finish(300) == full.finish(300));
     THROWS(YUREWHA_ARGUMENTS, light.keep_hashes(std::vector<yu::hash>{chunks[0].hash}));
+    // Ranges and sessions of parts are put together in any order.
+    const read_only<yu::subtree> range(yu::subtree(false, some(chunks, 100, 130), false));
+    const read_only<yu::session> two_parts(yu::session{session});
+    yu::session parts;
+    parts.put_range(100, 30, *range);
+    MUST(parts.num_known_hashes() == 0 && parts.run_from(0)->positions == yu::interval<std::uint64_t>{100, 130});
+    THROWS(YUREWHA_SESSION_OVERLAP, parts.put_range(90, 30, *range));
+    THROWS(YUREWHA_SESSION_POSITIONS, parts.put_range(UINT64_MAX, 30, *range));
+    THROWS(YUREWHA_ARGUMENTS, parts.put_range(130, 0, *range));
+    MUST(parts.put(130, some(chunks, 130, 200)) == 70);
+    parts.keep_hashes(std::vector<yu::hash>{chunks[0].hash});
+    MUST(parts.join(*two_parts) == 199 && parts.num_known_hashes() == 270 && two_parts->num_chunks() == 200);
+    MUST(parts.num_runs() == 1 && parts.finish(300) == full.finish(300));
+    THROWS(YUREWHA_SESSION_OVERLAP, parts.join(*two_parts));
+    // Joined with itself, a session without chunks is as before.
+    yu::session no_chunks;
+    no_chunks.keep_hashes(std::vector<yu::hash>{chunks[0].hash});
+    THROWS(YUREWHA_SESSION_OVERLAP, parts.join(parts));
+    MUST(no_chunks.join(no_chunks) == 0 && no_chunks.num_known_hashes() == 1 && parts.num_chunks() == 300);
     light = full;
     MUST(light.keeps_hashes());
     const yu::session moved = std::move(light);
     MUST(moved.num_chunks() == 300);
     THROWS(YUREWHA_EMPTY_HANDLE, light.num_chunks());
+    THROWS(YUREWHA_EMPTY_HANDLE, light.put_range(0, 30, *range));
+    THROWS(YUREWHA_EMPTY_HANDLE, no_chunks.join(light));
     light = yu::session();
     MUST(light.num_chunks() == 0);
 }
@@ -418,10 +439,11 @@ static void refusals()
 {
     const std::vector<yu::chunk> chunks = chunks_from(1, 300);
     yu::subtree front(true, some(chunks, 0, 100), false);
-    const yu::subtree back(false, some(chunks, 100, 300), true), before = front;
-    yu::session session, other;
+    const yu::subtree back(false, some(chunks, 100, 300), true), before = front, range(false, chunks, false);
+    yu::session session, other, far;
     (void)session.put(0, chunks);
     (void)other.put(7, chunks);
+    (void)far.put(2000, chunks);
     const std::string text = session.to_json();
     const yu::hash_tree tree(chunks);
     const yu::range_proof proof = tree.proof(1, 2);
@@ -436,6 +458,9 @@ static void refusals()
     THROWS(YUREWHA_MEMORY, session = other);
     THROWS(YUREWHA_MEMORY, session.run(0));
     THROWS(YUREWHA_MEMORY, session.put(1000, chunks));
+    THROWS(YUREWHA_MEMORY, session.put_range(1000, 300, range));
+    THROWS(YUREWHA_MEMORY, session.join(far));
+    THROWS(YUREWHA_MEMORY, session.join(session)); // of which it makes a copy
     THROWS(YUREWHA_MEMORY, yu::hash_tree(chunks));
     THROWS(YUREWHA_MEMORY, yu::opened_range(proof, tree.file_hash()));
     refuses = false;
