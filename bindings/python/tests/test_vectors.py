@@ -86,6 +86,8 @@ CALLS = {
     "session_finish": y.Session.finish,
     "session_finish_with_salt": y.Session.finish,
     "session_copy": y.Session.copy,
+    "session_put_range": y.Session.put_range,
+    "session_join": y.Session.join,
     "session_push_run": y.Session.push_run,
     "session_keep_hashes": y.Session.keep_hashes,
     "session_num_known_hashes": lambda session: len(session.known_hashes()),
