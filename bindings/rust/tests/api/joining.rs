@@ -168,7 +168,7 @@ fn sessions_that_cannot_be_joined_are_unchanged() {
     for (other, fault) in [
         (session_of(&[(4, &chunks)]), SessionFault::Overlap),
         (session_of(&[(0, &chunks[..2]), (12, &chunks)]), SessionFault::Overlap),
-        (session_of(&[(0, &chunks[..2]), (5, &[great])]), SessionFault::Sizes),
+        (session_of(&[(5, &[great])]), SessionFault::Sizes),
         // Of two faults, the first one is returned.
         (session_of(&[(12, &[great])]), SessionFault::Overlap),
     ] {
