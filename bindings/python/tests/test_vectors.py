@@ -150,7 +150,7 @@ ERRORS = {
 #: Where the package has another error than ERRORS says, or returns None.
 OTHERWISE = {
     ("subtree_from_flat", "RULE"): y.InvalidLists,
-    ("session_put", "SIZES"): y.SessionSizes,
+    ("session_put", "SIZES"): y.SessionSizes, ("session_put_range", "SIZES"): y.SessionSizes, ("session_join", "SIZES"): y.SessionSizes,
     ("opened_range_check", "MISMATCH"): (y.ProofMismatch, y.InvalidArguments),  # that there is no such chunk is of its own class
     ("find_stable_start", "ARGUMENTS"): None,
     ("find_stable_end", "ARGUMENTS"): None,

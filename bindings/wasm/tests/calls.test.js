@@ -834,7 +834,7 @@ test("a range is put at any position, and refused where it doesn't fit", () => {
         [0, 1, open(0, 1), new errors.SessionOverlap("position 0 is taken")], [1, 2, open(2, 4), new errors.SessionOverlap("position 1 is taken")],
         [2, 4, great, new errors.SessionOverlap("position 5 is taken")], [1n, MAX, open(0, 1), new errors.SessionOverlap("position 1 is taken")],
         [MAX, 1, great, errors.SessionPositions], [9, MAX, open(0, 1), errors.SessionPositions], [2, 3, great, errors.SessionSizes],
-        [2, 3, session, TypeError], [2, "3", great, TypeError], [-1, 3, great, errors.InvalidArguments], [2, 2n ** 64n, great, errors.InvalidArguments],
+        [2, 3, session, TypeError], [2, "3", great, TypeError], [-1, 3, great, RangeError], [2, 2n ** 64n, great, RangeError],
     ]) {
         assert.throws(() => session.putRange(first, count, range), error);
         assert.equal(session.toJSON(), before);

@@ -162,6 +162,8 @@ const ERRORS = {
 const OTHERWISE = {
     "subtree_from_flat RULE": errors.InvalidLists,
     "session_put SIZES": errors.SessionSizes,
+    "session_put_range SIZES": errors.SessionSizes,
+    "session_join SIZES": errors.SessionSizes,
     "find_stable_start ARGUMENTS": null,
     "find_stable_end ARGUMENTS": null,
     "subtree_final_hash ARGUMENTS": null,
@@ -182,6 +184,7 @@ const DOUBLES = new Set([
     "subtree_num_nodes",
     "subtree_merge_into_counted",
     "session_put",
+    "session_join",
     "session_num_runs",
     "session_num_known_hashes",
     "hash_tree_num_chunks",
