@@ -170,7 +170,7 @@ export class Parts {
 
     #say({ range: [first, end], proof, data }, [from], { refused, bytes, stop, fileSize }) {
         const sent = `${plural(data.length, "byte")} of ${plural(end - first, "chunk")}, and a proof of ${plural(proof.toFlat().nodes.length, "node")}`;
-        get("sent").textContent = `${sent} (${plural(proof.toJSON().length, "byte")} of JSON).`;
+        get("sent").textContent = `${sent} (${plural(proof.jsonText().length, "byte")} of JSON).`;
         get("part-verdict").className = refused ? "other" : "same";
         get("part-verdict").textContent = refused ?? `Accepted: these are bytes ${from} to ${stop - 1} of a file of ${fileSize} bytes.`;
         const shown = bytes ? new TextDecoder().decode(bytes.subarray(0, MOST_SHOWN)) : "";

@@ -8,6 +8,7 @@ import (
 	"errors"
 	"fmt"
 	"os"
+	"os/exec"
 	"path/filepath"
 	"reflect"
 	"sort"
@@ -16,9 +17,9 @@ import (
 	"testing"
 )
 
-// The scripts of tests/vectors/scripts: calls of the library with their answers.
+// The scripts of tests/vectors: calls of the library with their answers.
 
-const scripts = "../../tests/vectors/scripts/"
+const vectors = "../../tests/vectors/"
 
 // ---- Calls: what each call of the library is here
 
@@ -578,8 +579,16 @@ type head struct {
 	Calls         map[string]any
 }
 
+// The files of the scripts, which are made if they aren't there.
+func scripts(t *testing.T) []string {
+	if told, err := exec.Command("python3", vectors+"make_vectors", "--scripts").CombinedOutput(); err != nil {
+		t.Fatalf("python3 tests/vectors/make_vectors --scripts makes the scripts, and failed: %v\n%s", err, told)
+	}
+	return must(filepath.Glob(vectors + "out/scripts/*.jsonl"))
+}
+
 func TestVectors(t *testing.T) {
-	for _, path := range must(filepath.Glob(scripts + "*.jsonl")) {
+	for _, path := range scripts(t) {
 		t.Run(strings.TrimSuffix(filepath.Base(path), ".jsonl"), func(t *testing.T) {
 			file := must(os.Open(path))
 			defer file.Close()
@@ -606,7 +615,7 @@ func TestVectors(t *testing.T) {
 // A call of the table isn't left out, and scripts make it.
 func TestEachCallThatThePackageHasIsMade(t *testing.T) {
 	called := map[string]bool{}
-	for _, path := range must(filepath.Glob(scripts + "*.jsonl")) {
+	for _, path := range scripts(t) {
 		var head head
 		line, _, _ := bytes.Cut(must(os.ReadFile(path)), []byte("\n"))
 		expect(t, read(line, &head), nil)

@@ -2,13 +2,16 @@
 
 import functools
 import json
+import subprocess
+import sys
 from pathlib import Path
 
 import pytest
 
 y = pytest.importorskip("yurewha", reason="there is no libyurewha: run make -C bindings, or set YUREWHA_LIB_DIR")
 
-FOLDER = Path(__file__).resolve().parents[3] / "tests/vectors/scripts"
+VECTORS = Path(__file__).resolve().parents[3] / "tests/vectors"
+FOLDER = VECTORS / "out/scripts"
 NAMES = ("hashes", "texts", "roots", "subtrees", "merges", "subtree_json", "range_proofs", "sessions", "session_json", "hash_indexes",
          "files", "upstream")
 
@@ -298,6 +301,11 @@ def run_test(kinds, steps):
             lacking.update(answer.get("as") for answer in step[2:])
         else:
             run_step(kinds, objects, *step)
+
+
+@pytest.fixture(scope="module", autouse=True)
+def scripts_are_made():
+    subprocess.run([sys.executable, VECTORS / "make_vectors", "--scripts"], check=True)
 
 
 @pytest.mark.parametrize("name", NAMES)

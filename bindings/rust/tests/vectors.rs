@@ -7,6 +7,8 @@ use std::collections::{BTreeSet, HashMap};
 use std::fs;
 use std::ops::Range;
 use std::path::{Path, PathBuf};
+use std::process::Command;
+use std::sync::OnceLock;
 use yurewha::error::CoreError;
 use yurewha::merklehash::{compute_data_hash, compute_internal_node_hash, DataHash, MerkleHashSubtree};
 use yurewha::merklehash::{find_stable_end, find_stable_start};
@@ -708,8 +710,18 @@ fn run_test(test: &Value) {
     }
 }
 
+// The folder of the scripts, which are made if they aren't there.
 fn folder() -> PathBuf {
-    Path::new(env!("CARGO_MANIFEST_DIR")).join("tests/vectors/scripts")
+    static MADE: OnceLock<bool> = OnceLock::new();
+    let vectors = Path::new(env!("CARGO_MANIFEST_DIR")).join("tests/vectors");
+    let mut command = Command::new("python3");
+    command.arg(vectors.join("make_vectors")).arg("--scripts");
+    let made = MADE.get_or_init(|| command.status().is_ok_and(|status| status.success()));
+    assert!(
+        made,
+        "python3 tests/vectors/make_vectors --scripts makes the scripts, and failed"
+    );
+    vectors.join("out/scripts")
 }
 
 // All tests of a script. Where one fails, it is named before.

@@ -80,10 +80,17 @@ test("bytes are a Uint8Array", () => {
         (value) => new y.FileHasher().fileHash(value),
         (value) => new y.Session().finish(0, value),
     ];
+    const hostile = new Proxy(new Uint8Array(32), {
+        get() {
+            throw new Error("a caller's code runs");
+        },
+    });
+    const detached = new Uint8Array(32);
+    structuredClone(detached.buffer, { transfer: [detached.buffer] });
+    const wrong = [null, 1, [1], {}, new SharedArrayBuffer(32), new DataView(new ArrayBuffer(32)), new Int8Array(32), new Uint16Array(16), hostile, detached];
+    const ofAnotherRealm = ["SharedArrayBuffer(32)", "Int8Array(32)", "DataView(new ArrayBuffer(32))"].map((made) => runInNewContext(`new ${made}`));
     for (const call of [...ofData, ...others]) {
-        for (const value of [null, 1, [1], {}, new SharedArrayBuffer(32), new DataView(new ArrayBuffer(32)), new Int8Array(32), new Uint16Array(16)]) {
-            assert.throws(() => call(value), TypeError);
-        }
+        for (const value of [...wrong, ...ofAnotherRealm]) assert.throws(() => call(value), TypeError);
     }
     for (const call of others) assert.throws(() => call(new ArrayBuffer(32)), TypeError);
     // A Uint8Array of another realm is one.
@@ -136,9 +143,10 @@ test("a Uint8Array isn't asked whether it is a buffer, for which an engine throw
 });
 
 test("texts are strings, marks are true or false, and lists are of pairs", () => {
-    for (const value of [null, 1, [], new Uint8Array(64)]) {
-        assert.throws(() => y.Hash.fromHex(value), TypeError);
-        assert.throws(() => y.Hash.fromBase64(value), TypeError);
+    for (const [value, got] of [[null, "null"], [1, "1"], [[], "an array"], [new Uint8Array(64), "a Uint8Array of 64 bytes"]]) {
+        assert.throws(() => y.Hash.fromHex(value), new TypeError(`the hex text of a hash must be a string, got ${got}`));
+        assert.throws(() => y.Hash.fromBase64(value), new TypeError(`the base64 text of a hash must be a string, got ${got}`));
+        assert.throws(() => y.Hash.fromJSON(value), new TypeError(`JSON must be a string, got ${got}`));
     }
     for (const value of [0, 1, "true", null, undefined]) {
         assert.throws(() => y.Subtree.fromChunks(value, [], false), TypeError);
@@ -154,6 +162,35 @@ test("texts are strings, marks are true or false, and lists are of pairs", () =>
     assert.throws(() => y.xorbHash("ab"), new TypeError('chunk 0 must be a pair of a hash and a size, got "a"'));
     for (const levels of [null, [1], [[1]], [[1, 2, 3]]]) {
         assert.throws(() => y.Subtree.fromFlat({ atStart: true, levels, nodes: [], atEnd: true }), TypeError);
+    }
+});
+
+test("a hex text is what the module writes and reads", async () => {
+    const { library, yurewha } = await wrapped(BYTES, (exports) => exports);
+    const [encoder, decoder] = [new TextEncoder(), new TextDecoder()];
+    const written = (raw) =>
+        library.over([raw, 64, 8], (at, room, out) => {
+            library.call("yurewha_hex", at, room, 64n, out);
+            return decoder.decode(library.read(room, 64));
+        });
+    /** The bytes of the hash that the module reads in a text, or null. */
+    const read = (text) => {
+        const given = encoder.encode(text);
+        return library.over([given, 32], (at, out) => {
+            return library.call("yurewha_from_hex", at, BigInt(given.length), out) === STATUS.DONE ? library.read(out, 32) : null;
+        });
+    };
+    const raws = [bytesOf(32), counting(32), ...list(20).map(([hash]) => hash.bytes), ...Array.from({ length: 16 }, (_, k) => new Uint8Array(32).fill(17 * k))];
+    const texts = raws.map(written);
+    for (const [k, raw] of raws.entries()) assert.equal(new yurewha.Hash(raw).hex(), texts[k]);
+    const [hex] = texts;
+    const others = [hex.toUpperCase(), hex.slice(1), `${hex}0`, ` ${hex}`, `${hex}\n`, "", "0x".padEnd(64, "0"), "é".repeat(32), hex.repeat(2)];
+    const letters = [...Array.from({ length: 256 }, (_, code) => String.fromCharCode(code)), "\u0130", "\ud800", "\uff10", "\uff41", "\u{10401}"];
+    for (const letter of letters) for (const place of [0, 1, 31, 62, 63]) others.push(hex.slice(0, place) + letter + hex.slice(place + letter.length));
+    for (const text of [...texts, ...others]) {
+        const wanted = read(text);
+        if (wanted) assert.deepEqual(yurewha.Hash.fromHex(text).bytes, wanted, text);
+        else assert.throws(() => yurewha.Hash.fromHex(text), { name: "InvalidText", message: /^the hex text of a hash must be 64 hex digits, got "/ }, text);
     }
 });
 
@@ -566,7 +603,7 @@ test("a subtree says what it keeps, and reads back from JSON and flat lists", ()
         assert.equal(range.numNodes, range.levels.flat().reduce((sum, count) => sum + count));
         assert.equal(range.numLevels, range.levels.length);
         assert.equal(range.finalHash()?.hex(), atStart && atEnd ? y.xorbHash(chunks).hex() : undefined);
-        const json = JSON.parse(JSON.stringify({ range })).range;
+        const json = JSON.stringify(range);
         for (const other of [y.Subtree.fromJSON(json), y.Subtree.fromJSON(Buffer.from(json)), y.Subtree.fromFlat(range.toFlat()), range.clone()]) {
             assert.ok(other.equals(range) && other !== range);
         }
@@ -603,7 +640,7 @@ test("deep and long texts are refused, and thousands of levels merged, without a
     const front = y.Subtree.fromFlat({ atStart: true, levels: [...levels, [1, 0]], nodes, atEnd: false });
     front.mergeInto(y.Subtree.fromChunks(false, [plain], true));
     assert.equal(front.totalSize, BigInt(nodes.length + 1));
-    assert.ok(y.Subtree.fromJSON(front.toJSON()).equals(front));
+    assert.ok(y.Subtree.fromJSON(front.jsonText()).equals(front));
 });
 
 test("a thousand ranges are merged at once", () => {
@@ -715,7 +752,7 @@ test("a session without hashes knows none, in whatever form it was saved", () =>
     const text = (() => {
         const keeping = new y.Session();
         keeping.put(0, [[one, 7]]);
-        return keeping.toJSON();
+        return keeping.jsonText();
     })();
     assert.deepEqual([session.put(0, [[one, 7]]), session.keepsHashes, new y.Session({}).keepsHashes], [1, false, true]);
     const forms = {
@@ -825,7 +862,7 @@ test("a range is put at any position, and refused where it doesn't fit", () => {
     session.put(5, chunks.slice(5));
     session.putRange(0, 2n, open(0, 2));
     assert.deepEqual([session.numChunks, session.numRuns, session.taken(1), session.taken(2), session.knows(chunks[0][0])], [3n, 2, true, false, false]);
-    const [before, great] = [session.toJSON(), y.Subtree.fromChunks(false, [[new y.Hash(), MAX]], false)];
+    const [before, great] = [session.jsonText(), y.Subtree.fromChunks(false, [[new y.Hash(), MAX]], false)];
     const marked = (atStart, atEnd) => y.Subtree.fromChunks(atStart, chunks.slice(0, 1), atEnd);
     const unfit = (count, first) =>
         new errors.InvalidArguments(`a range must have a chunk, and no mark at an end, got one of ${count} chunks from position ${first} on`);
@@ -837,7 +874,7 @@ test("a range is put at any position, and refused where it doesn't fit", () => {
         [2, 3, session, TypeError], [2, "3", great, TypeError], [-1, 3, great, RangeError], [2, 2n ** 64n, great, RangeError],
     ]) {
         assert.throws(() => session.putRange(first, count, range), error);
-        assert.equal(session.toJSON(), before);
+        assert.equal(session.jsonText(), before);
     }
     session.putRange(2, 3, open(2, 5));
     assert.ok(session.finish(6).equals(y.fileHash(chunks)));
@@ -861,11 +898,11 @@ test("sessions are joined, unless a position is taken in both", () => {
     const wrong = (what) => new TypeError(`the other must be a Session of the same module, got ${what}`);
     for (const [other, what] of [[null, "null"], [7, "7"], [undefined, "undefined"]]) refusals.push([other, wrong(what)]);
     for (const other of [{}, chunks, session.run(0)[2], session.saved]) refusals.push([other, TypeError]);
-    const before = session.toJSON();
+    const before = session.jsonText();
     for (const [other, error] of refusals) {
-        const untouched = other instanceof y.Session ? other.toJSON() : null;
+        const untouched = other instanceof y.Session ? other.jsonText() : null;
         assert.throws(() => session.join(other), error);
-        assert.deepEqual([session.toJSON(), other instanceof y.Session ? other.toJSON() : null], [before, untouched]);
+        assert.deepEqual([session.jsonText(), other instanceof y.Session ? other.jsonText() : null], [before, untouched]);
     }
     session.put(20, chunks.slice(1, 2));
     const others = sessionOf([1, 3], [5, 7], [8, 9]);

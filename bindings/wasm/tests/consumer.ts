@@ -77,13 +77,13 @@ const hash: Hash = y.dataHash(data);
 const other: Hash = new y.Hash(hash.bytes);
 const order: -1 | 0 | 1 = hash.compare(other);
 const texts: string[] = [hash.hex(), hash.base64(), hash.toString(), hash.toJSON(), `${hash}`];
-const read: Hash[] = [y.Hash.fromHex(texts[0]!), y.Hash.fromBase64(texts[1]!), new y.Hash(), hash.hmac(other)];
+const read: Hash[] = [y.Hash.fromHex(texts[0]!), y.Hash.fromBase64(texts[1]!), y.Hash.fromJSON(JSON.stringify(hash)), new y.Hash(), hash.hmac(other)];
 const cut: boolean = hash.remainder(4) === 0n;
 const size: U64 = 7n;
 const pairs: Chunk[] = [[hash, size], [y.Hash.randomFromSeed(1), 200]];
 const lists: ChunkList[] = [pairs, new Set(pairs), pairs.values()];
 const chunks: Chunks = y.Chunks.from(pairs);
-const copies: Chunks[] = [new y.Chunks(chunks.bytes), y.Chunks.fromJSON(chunks.toJSON()), chunks.slice(-2)];
+const copies: Chunks[] = [new y.Chunks(chunks.bytes), y.Chunks.fromJSON(chunks.toJSON()), y.Chunks.fromJSON(JSON.stringify(chunks)), chunks.slice(-2)];
 const last: [Hash, bigint] | undefined = chunks.at(-1);
 const [first, ...rest]: string[] = [...chunks].map(([it, bytes]) => `${it.hex()} ${bytes}`);
 const hasher: Hasher = new y.Hasher().update(data).clone();
@@ -112,7 +112,7 @@ const root: Hash = y.xorbHash(chunks);
 const inner: Hash = y.internalNodeHash(data);
 const files: Hash[] = [y.fileHash(pairs), y.fileHash(new Set(pairs), new Uint8Array(32))];
 const front: Subtree = y.Subtree.fromChunks(true, chunks.slice(0, 1), false);
-const back: Subtree = y.Subtree.fromJSON(y.Subtree.fromChunks(false, pairs.slice(1), true).toJSON());
+const back: Subtree = y.Subtree.fromJSON(y.Subtree.fromChunks(false, pairs.slice(1), true).jsonText());
 const whole: Subtree = y.Subtree.merge([front, back]);
 const parents: number = front.mergeInto(back);
 const flat: Flat = front.toFlat();
@@ -135,9 +135,9 @@ const joined: number = restored.join(new y.Session({ keepHashes: false }));
 restored.putRange(joined + 7, 1n, run);
 restored.keepHashes(session.knownHashes());
 const form: SavedSession = restored.saved;
-const sessionText: string = restored.toJSON();
+const sessionText: string = restored.jsonText();
 y.Session.fromJSON(sessionText).free();
-y.RangeProof.fromJSON(y.RangeProof.fromChunks(pairs, 0, 1).toJSON(), { limit: 2n ** 30n });
+y.RangeProof.fromJSON(y.RangeProof.fromChunks(pairs, 0, 1).jsonText(), { limit: 2n ** 30n });
 y.Session.fromJSON(new TextEncoder().encode(sessionText)).free();
 const again: Session = y.Session.restore(JSON.parse(JSON.stringify(form)) as SavedSession).clone();
 const taken: boolean = again.taken(1) && session.numRuns === 1;
@@ -159,7 +159,7 @@ const sides: [Chunks, Chunks, number] = [proof.left(0), proof.right(0n), proof.n
 const flatProof: FlatProof = proof.toFlat();
 const proofInput: FlatProofInput = { ...flatProof, levels: [[0n, 1]] };
 const proofs: RangeProof[] = [
-    y.RangeProof.fromChunks(chunks, 0, 1), y.RangeProof.fromJSON(proof.toJSON()), new y.RangeProof(proof.bytes), y.RangeProof.fromFlat(proofInput),
+    y.RangeProof.fromChunks(chunks, 0, 1), y.RangeProof.fromJSON(proof.jsonText()), new y.RangeProof(proof.bytes), y.RangeProof.fromFlat(proofInput),
 ];
 const opened: OpenedRange = proof.open(y.fileHash(pairs));
 const byRoot: OpenedRange = proofs[0]!.openRoot(tree.root);
@@ -353,8 +353,8 @@ export async function refused(): Promise<void> {
     new y.Chunks(pairs);
     // @ts-expect-error a chunk has two members
     y.Chunks.from([[hash, 1, 2]]);
-    // @ts-expect-error pairs aren't their text
-    y.Chunks.fromJSON("[]");
+    // @ts-expect-error packed chunks aren't pairs
+    y.Chunks.fromJSON(chunks.bytes);
     // @ts-expect-error a size is a text here
     y.Chunks.fromJSON([["00", 7]]);
     // @ts-expect-error a hasher takes bytes
@@ -400,7 +400,7 @@ export async function refused(): Promise<void> {
     // @ts-expect-error ranges are merged as a list
     y.Subtree.merge(front, back);
     // @ts-expect-error a range isn't its text
-    front.mergeInto(back.toJSON());
+    front.mergeInto(back.jsonText());
     // @ts-expect-error a list isn't a range
     y.Subtree.merge([front, chunks]);
     // @ts-expect-error a session isn't a range
@@ -409,6 +409,12 @@ export async function refused(): Promise<void> {
     front.mergeInto(back).finalHash();
     // @ts-expect-error an object isn't a text
     y.Subtree.fromJSON(flat);
+    // @ts-expect-error what JSON.stringify writes isn't a text yet
+    y.Subtree.fromJSON(back.toJSON());
+    // @ts-expect-error nor is that of a session
+    y.Session.fromJSON(session.toJSON());
+    // @ts-expect-error nor that of a proof
+    y.RangeProof.fromJSON(proof.toJSON());
     // @ts-expect-error flat lists aren't a range
     front.equals(flat);
     // @ts-expect-error there may be no root
@@ -526,7 +532,7 @@ export async function refused(): Promise<void> {
     // @ts-expect-error a tree is made of chunks
     new y.HashTree(chunks);
     // @ts-expect-error a proof is made of bytes
-    new y.RangeProof(proof.toJSON());
+    new y.RangeProof(proof.jsonText());
     // @ts-expect-error a proof has to be opened
     proof.check(0, data);
     // @ts-expect-error a proof is opened with a hash, not its text
@@ -556,7 +562,7 @@ export async function refused(): Promise<void> {
     // @ts-expect-error bytes are fetched, not their text
     await y.VerifiedBlob.open(hash, () => "a chunk", prove);
     // @ts-expect-error a proof isn't its text
-    await y.VerifiedBlob.open(hash, bytesFrom, () => proof.toJSON());
+    await y.VerifiedBlob.open(hash, bytesFrom, () => proof.jsonText());
     // @ts-expect-error a file is opened by a hash
     await y.VerifiedBlob.open(hash.hex(), bytesFrom, prove);
     // @ts-expect-error a limit is a number
@@ -608,7 +614,7 @@ const listed = copies.every((it) => y.xorbHash(it).equals(root)) && last?.[1] ==
 const proven = `${place} ${after} ${bytesOf}` === "0 1 0,7" && `${sides[0].length} ${sides[1].length} ${sides[2]}` === "0 1 1" &&
     proofs.every((it) => it.equals(proof)) && `${places}` === "0,7,0,207" && part?.length === 2 && checked.join() === "a chunk" && byRoot.numChunks === 1;
 const indexed = `${added} ${numbers} ${entries.length} ${savedIndex.length} ${differing} ${differingBytes}` === "2 7, 1 1 0,1,0 0,7,0";
-const more = taken && told[3] === 1 && read.length === 4 && !cut === (hash.remainder(4n) !== 0n) && others.length === 2 && !inner.equals(hash);
+const more = taken && told[3] === 1 && read.length === 5 && !cut === (hash.remainder(4n) !== 0n) && others.length === 2 && !inner.equals(hash);
 const cutFile = `${boundaries}` === `,7,${chunker.state}` && fileHashes[0] === 14n && fileHashes.slice(1).every((it) => it.toString() === fileHashes[1]!.toString()) &&
     ofFile.length === 2 && ofFile.every(([it, bytes]) => it.equals(hash) && bytes === 7);
 console.log(

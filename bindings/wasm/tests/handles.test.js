@@ -103,7 +103,7 @@ test("a subclass of Uint8Array can't tell another length or other elements", asy
     const others = [(key) => new y.Hash(key), (key) => y.Hasher.keyed(key).digest(), (key) => y.fileHash([], key), (key) => y.fileHash(list(y, 2), key)];
     for (const call of others) assert.equal(call(odd32).hex(), call(plain32).hex(), `${call}`);
     const range = y.Subtree.fromChunks(true, list(y, 2), true);
-    const json = new Odd(Buffer.from(range.toJSON()));
+    const json = new Odd(Buffer.from(range.jsonText()));
     assert.ok(y.Subtree.fromJSON(json).equals(range));
     const fake = Object.defineProperty(new Int8Array(32), Symbol.toStringTag, { value: "Uint8Array" });
     assert.throws(() => new y.Hash(fake), TypeError);
@@ -120,8 +120,8 @@ test("every block goes back", async () => {
     const [[, , run]] = session.runs();
     session.clone().free();
     y.Session.restore(session.saved).free();
-    y.Session.fromJSON(session.toJSON()).free();
-    for (const text of [front.toJSON(), session.toJSON().replace('"end":100', '"end":0')]) assert.throws(() => y.Session.fromJSON(text));
+    y.Session.fromJSON(session.jsonText()).free();
+    for (const text of [front.jsonText(), session.jsonText().replace('"end":100', '"end":0')]) assert.throws(() => y.Session.fromJSON(text));
     for (const total of [99, 101]) assert.throws(() => session.root(total), SessionGap);
     assert.throws(() => session.put(7, chunks), SessionOverlap);
     assert.throws(() => session.putRange(7, 9, run), SessionOverlap);
@@ -132,8 +132,8 @@ test("every block goes back", async () => {
     session.run(0)[2].free();
     session.gaps(200);
     session.finish(100, new Uint8Array(32));
-    assert.throws(() => y.Session.restore({ runs: [...session.saved.runs, ["x", "y", front.toJSON()]], knownHashes: [] }));
-    const made = [front.clone(), y.Subtree.merge([front, back]), y.Subtree.merge([run, run]), y.Subtree.fromJSON(front.toJSON()), y.Subtree.fromFlat(back.toFlat())];
+    assert.throws(() => y.Session.restore({ runs: [...session.saved.runs, ["x", "y", front.jsonText()]], knownHashes: [] }));
+    const made = [front.clone(), y.Subtree.merge([front, back]), y.Subtree.merge([run, run]), y.Subtree.fromJSON(front.jsonText()), y.Subtree.fromFlat(back.toFlat())];
     front.mergeInto(back);
     run.mergeInto(run);
     assert.throws(() => front.mergeInto(back));
@@ -236,13 +236,13 @@ test("after a trap nothing of the instance is called again", async () => {
         const { calls } = seen;
         seen.trap = null;
         const later = [
-            () => call(y, range), () => hash.hex(), () => hash.equals(hash), () => hasher.digest(), () => hasher.update(new Uint8Array(1)),
+            () => call(y, range), () => hash.base64(), () => hash.equals(hash), () => hasher.digest(), () => hasher.update(new Uint8Array(1)),
             () => range.numNodes, () => range.clone(), () => session.root(0), () => new y.Session(), () => y.xorbHash([]),
         ];
         for (const it of later.slice(name === "yurewha_subtree_free" ? 1 : 0)) assert.throws(it, ofTrap, `${name}: ${it}`);
         range.free();
         session.free();
+        assert.deepEqual(y.Hash.fromHex(hash.hex()).bytes, new Uint8Array(32));
         assert.equal(seen.calls, calls, name);
-        assert.deepEqual(hash.bytes, new Uint8Array(32));
     }
 });

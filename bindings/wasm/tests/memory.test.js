@@ -21,7 +21,7 @@ function scene(y) {
     const session = new y.Session();
     session.put(0, chunks.slice(0, 100));
     session.put(200, chunks.slice(200));
-    const json = front.toJSON();
+    const json = front.jsonText();
     const flat = back.toFlat();
     const hash = y.Hash.randomFromSeed(1);
     const base64 = hash.base64();
@@ -31,10 +31,10 @@ function scene(y) {
     const [[one]] = chunks;
     added.put(600, chunks.slice(0, 50));
     const { saved } = session;
-    const sessionText = session.toJSON();
+    const sessionText = session.jsonText();
     const tree = y.HashTree.fromChunks(chunks);
     const proof = tree.proof(100, 200);
-    const [text, [fileHash, root]] = [proof.toJSON(), [tree.fileHash(), tree.root]];
+    const [text, [fileHash, root]] = [proof.jsonText(), [tree.fileHash(), tree.root]];
     const told = (opened) => [opened.begins(0), opened.ends(99), opened.fileSize];
     const others = Array.from({ length: COUNT }, (_, k) => y.Hash.randomFromSeed(1000 + k));
     const numbers = others.map((_, k) => k);
@@ -58,7 +58,7 @@ function scene(y) {
         fromChunks: () => plain(y.Subtree.fromChunks(false, chunks, false)),
         clone: () => plain(front.clone()),
         merge: () => plain(y.Subtree.merge([front, back])),
-        toJSON: () => front.toJSON(),
+        jsonText: () => front.jsonText(),
         fromJSON: () => plain(y.Subtree.fromJSON(json)),
         fromFlat: () => plain(y.Subtree.fromFlat(flat)),
         "new Session": () => new y.Session().numRuns,
@@ -67,7 +67,7 @@ function scene(y) {
         gaps: () => session.gaps(300),
         saved: () => session.saved,
         restore: () => y.Session.restore(saved).numRuns,
-        "a session as JSON": () => session.toJSON(),
+        "a session as JSON": () => session.jsonText(),
         "a session of JSON": () => y.Session.fromJSON(sessionText).numRuns,
         runFrom: () => plain(session.runFrom(100)[2]),
         knownHashes: () => session.knownHashes().length,
@@ -80,7 +80,7 @@ function scene(y) {
         "a tree": () => y.HashTree.fromChunks(chunks).numChunks,
         "a proof of a tree": () => tree.proof(100, 200).bytes,
         "a proof of chunks": () => y.RangeProof.fromChunks(chunks, 100, 200).bytes,
-        "a proof as JSON": () => proof.toJSON(),
+        "a proof as JSON": () => proof.jsonText(),
         "a proof of JSON": () => y.RangeProof.fromJSON(text).bytes,
         "a proof of bytes": () => new y.RangeProof(proof.bytes).bytes,
         open: () => told(proof.open(fileHash)),

@@ -40,29 +40,29 @@ function checksOver(y) {
         merging(it) {
             if (it.early) return refused(() => it.ranges.map(rangeOf), it.error);
             const ranges = it.ranges.map(rangeOf);
-            const before = ranges.map((range) => range.toJSON());
+            const before = ranges.map((range) => range.jsonText());
             if (it.error) {
                 refused(() => y.Subtree.merge(ranges), it.error);
-                return assert.deepEqual(ranges.map((range) => range.toJSON()), before);
+                return assert.deepEqual(ranges.map((range) => range.jsonText()), before);
             }
-            assert.equal(y.Subtree.merge(ranges).toJSON(), it.json);
-            assert.deepEqual(ranges.map((range) => range.toJSON()), before);
+            assert.equal(y.Subtree.merge(ranges).jsonText(), it.json);
+            assert.deepEqual(ranges.map((range) => range.jsonText()), before);
             const parents = it.places.map((place) => {
                 const [back] = ranges.splice(place + 1, 1);
                 return ranges[place].mergeInto(back);
             });
-            assert.deepEqual([parents, ranges.length, ranges[0].toJSON()], [it.parents, 1, it.json]);
+            assert.deepEqual([parents, ranges.length, ranges[0].jsonText()], [it.parents, 1, it.json]);
             assert.equal(ranges[0].finalHash()?.hex() ?? null, it.final);
         },
         forged(it) {
-            if (!it.error) return assert.equal(y.Subtree.fromJSON(it.text).toJSON(), it.json);
+            if (!it.error) return assert.equal(y.Subtree.fromJSON(it.text).jsonText(), it.json);
             assert.throws(() => y.Subtree.fromJSON(it.text), (error) => error.name === it.error && error.rule === it.rule);
         },
         partial(it) {
             const data = it.data.map(unhex);
             const tree = y.HashTree.fromChunks(data.map((chunk) => [y.dataHash(chunk), chunk.length]));
             const honest = tree.proof(it.first, it.end);
-            assert.equal(honest.toJSON(), it.honest);
+            assert.equal(honest.jsonText(), it.honest);
             assert.equal(tree.fileHash(unhex(it.salt)).hex(), it.file);
             tree.free();
             const open = () => y.RangeProof.fromJSON(it.text).open(y.Hash.fromHex(it.file), unhex(it.salt));
@@ -90,7 +90,7 @@ function checksOver(y) {
                     assert.deepEqual(taken, places.flatMap((place, k) => (place >= 0n && place < 2n ** 64n ? [k === 1 || k === 2] : [])));
                 }
             }
-            assert.deepEqual(session.runs().map(([, , range]) => range.toJSON()), it.ranges);
+            assert.deepEqual(session.runs().map(([, , range]) => range.jsonText()), it.ranges);
             assert.deepEqual(session.runs().map(([first]) => `${first}`), it.calls.at(-1).runs.map(([first]) => first));
             const calls = [() => session.root(BigInt(it.total)), () => session.finish(BigInt(it.total))];
             if (it.error) calls.forEach((call) => refused(call, it.error));

@@ -154,7 +154,7 @@ function readersOf(it) {
     const opened = proof.open(tree.fileHash());
     const [part, whole] = [Buffer.concat(data.slice(1, 3)), Buffer.concat(data)];
     const [flat, flatProof, packed, hash] = [range.toFlat(), proof.toFlat(), it.Chunks.from(chunks).bytes, chunks[1][0]];
-    const [json, sessionJson, proofJson, saved] = [range.toJSON(), session.toJSON(), proof.toJSON(), session.saved];
+    const [json, sessionJson, proofJson, saved] = [range.jsonText(), session.jsonText(), proof.jsonText(), session.saved];
     const [beside, head] = [flatProof.nodes.length - proof.chunks.length, 1 + 2 * proof.numLevels];
     const blob = (fetch, prove) => it.VerifiedBlob.open(tree.fileHash(), fetch, prove);
     const first = tree.proof(0, 1);
@@ -172,15 +172,17 @@ function readersOf(it) {
         "new RangeProof": [proof.bytes, (given) => new it.RangeProof(given), (length) => (length - head) % 40 === 0 && length > head + 40 * beside],
         "new Chunks": [packed, (given) => new it.Chunks(given), (length) => length % 40 === 0],
         "Chunks.fromJSON": [hash.hex(), (given) => it.Chunks.fromJSON([[given, "5"]])],
+        "Chunks.fromJSON of a text": [JSON.stringify(it.Chunks.from(chunks)), (given) => it.Chunks.fromJSON(given)],
         "new Hash": [hash.bytes, (given) => new it.Hash(given)],
         "Hash.fromHex": [hash.hex(), (given) => it.Hash.fromHex(given)],
         "Hash.fromBase64": [hash.base64(), (given) => it.Hash.fromBase64(given)],
+        "Hash.fromJSON": [JSON.stringify(hash), (given) => it.Hash.fromJSON(given)],
         checkOrThrow: [data[1], (given) => opened.checkOrThrow(0, given)],
         readOrThrow: [part, (given) => opened.readOrThrow(20, 22, given)],
         checking: [part, (given) => new Blob([given]).stream().pipeThrough(opened.checking())],
         "a fetch of a VerifiedBlob": [data[0], (given) => blob(() => given, () => first)],
         "a response of a VerifiedBlob": [data[0], (given) => blob(() => new Response(given), () => first)],
-        "a proof of a VerifiedBlob": [first.toJSON(), (given) => blob(() => data[0], () => new Response(given))],
+        "a proof of a VerifiedBlob": [first.jsonText(), (given) => blob(() => data[0], () => new Response(given))],
         hashChunks: [whole, (given) => it.hashChunks([given], [0, 7, whole.length])],
         hashCuts: [whole, (given) => it.hashCuts([given], [7, whole.length])],
     };

@@ -312,9 +312,9 @@ test("a proof reads back from its forms, and tells its parts", () => {
     const list = nodes(28);
     for (const [first, end] of [[5, 6], [10, 22], [27, 28], [0, 28]]) {
         const proof = y.RangeProof.fromChunks(list, first, end);
-        const json = JSON.parse(JSON.stringify({ proof })).proof;
+        const json = JSON.stringify(proof);
         const others = [y.RangeProof.fromJSON(json), y.RangeProof.fromJSON(Buffer.from(json)), new y.RangeProof(proof.bytes), y.RangeProof.fromFlat(proof.toFlat())];
-        for (const other of others) assert.ok(other.equals(proof) && proof.equals(other) && other.toJSON() === json);
+        for (const other of others) assert.ok(other.equals(proof) && proof.equals(other) && other.jsonText() === json);
         const { levels, nodes: flat } = proof.toFlat();
         const sides = levels.map((_, level) => [hexes(proof.left(level)), hexes(proof.right(level))]);
         assert.deepEqual(sides.map(([left, right]) => [left.length, right.length]), levels);
@@ -345,7 +345,7 @@ test("a proof of many chunks is made, written and read back", () => {
     const list = y.Chunks.from(nodes(count));
     const proof = y.RangeProof.fromChunks(list, 3, count - 2);
     assert.deepEqual(proof.chunks.bytes, list.slice(3, -2).bytes);
-    assert.ok(y.RangeProof.fromJSON(proof.toJSON()).equals(proof) && new y.RangeProof(proof.bytes).equals(proof));
+    assert.ok(y.RangeProof.fromJSON(proof.jsonText()).equals(proof) && new y.RangeProof(proof.bytes).equals(proof));
     const range = proof.openRoot(y.xorbHash(list));
     assert.deepEqual([range.numChunks, range.begins(0), range.ends(count - 6)], [count - 5, 3n, BigInt(count - 2)]);
 });
@@ -353,7 +353,7 @@ test("a proof of many chunks is made, written and read back", () => {
 test("a proof of 64 levels with 8 nodes on each side is written and read back", () => {
     const levels = Array(64).fill([8, 8]);
     const proof = y.RangeProof.fromFlat({ levels, nodes: nodes(64 * 16 + 1) });
-    for (const other of [y.RangeProof.fromJSON(proof.toJSON()), new y.RangeProof(proof.bytes)]) {
+    for (const other of [y.RangeProof.fromJSON(proof.jsonText()), new y.RangeProof(proof.bytes)]) {
         assert.ok(other.equals(proof));
         assert.deepEqual([other.toFlat().levels, other.chunks.length, other.left(63).length, other.right(63).length], [levels, 1, 8, 8]);
     }
@@ -458,7 +458,7 @@ test("a text of more bytes than the limit isn't read", async () => {
     }));
     const { RangeProof } = yurewha;
     const proof = RangeProof.fromChunks([[new yurewha.Hash(), 7]], 0, 1);
-    const text = proof.toJSON();
+    const text = proof.jsonText();
     const ofLength = (length) => text.padEnd(length);
     for (const [given, options] of [
         [text, {}], [ofLength(2 ** 24)], [ofLength(2 ** 24 + 1), { limit: 2 ** 24 + 1 }], [text, { limit: text.length }], [text, { limit: MAX }],

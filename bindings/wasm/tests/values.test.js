@@ -2,6 +2,8 @@
 
 import assert from "node:assert/strict";
 import { inspect } from "node:util";
+import { setFlagsFromString } from "node:v8";
+import { runInNewContext } from "node:vm";
 import { MessageChannel, receiveMessageOnPort } from "node:worker_threads";
 import * as errors from "../yurewha/index.js";
 import { BYTES, chunksOf, test, wrapped } from "./support.js";
@@ -94,13 +96,13 @@ const USES = {
     Hasher: "its digest()",
     Chunker: "its taken",
     FileHasher: "its root() or fileHash()",
-    Subtree: "its toJSON()",
+    Subtree: "its jsonText()",
     HashIndex: "its saved lists",
     HashTree: "its root or fileHash()",
-    RangeProof: "its bytes or toJSON()",
+    RangeProof: "its bytes or jsonText()",
     OpenedRange: "its read() or proof",
     VerifiedBlob: "await it.arrayBuffer(), or in a Response it.stream()",
-    Session: "its toJSON()",
+    Session: "its jsonText()",
 };
 
 for (const [kind, [make]] of Object.entries(KINDS)) {
@@ -149,13 +151,13 @@ test("a session is saved alike, in whatever order its chunks were put", () => {
 test("an object doesn't change through its own properties", () => {
     const hash = y.Hash.randomFromSeed(1);
     const range = y.Subtree.fromChunks(false, list(30), false);
-    const json = range.toJSON();
+    const json = range.jsonText();
     assert.throws(() => (hash.bytes = new Uint8Array(32)), TypeError);
     hash.bytes.fill(0);
     range.nodes.bytes.fill(0);
     range.levels.length = 0;
     assert.equal(hash.hex(), y.Hash.randomFromSeed(1).hex());
-    assert.equal(range.toJSON(), json);
+    assert.equal(range.jsonText(), json);
     assert.deepStrictEqual({ ...range }, range.toFlat());
 });
 
@@ -174,7 +176,7 @@ test("another thread makes each object again of what it is sent", () => {
     const range = y.Subtree.fromChunks(true, chunks, true);
     const session = sessionOf([40, 10], [0, 30]);
     const proof = proofOf(7, 9);
-    const sent = received([hash.bytes, chunks.bytes, range.toJSON(), session.saved, proof.bytes]);
+    const sent = received([hash.bytes, chunks.bytes, range.jsonText(), session.saved, proof.bytes]);
     assert.equal(new other.Hash(sent[0]).hex(), hash.hex());
     assert.equal(other.xorbHash(new other.Chunks(sent[1])).hex(), y.xorbHash(chunks).hex());
     assert.equal(other.Subtree.fromJSON(sent[2]).finalHash().hex(), range.finalHash().hex());
@@ -210,17 +212,64 @@ test("chunks and sessions are read from their JSON", () => {
     assert.equal(JSON.stringify(y.Chunks.from(great.slice(1))), `[["${"0".repeat(64)}","0"]]`);
     const session = sessionOf([2n ** 63n, 3], [4, 2]);
     assert.deepStrictEqual(y.Session.restore(JSON.parse(JSON.stringify(session.saved))), session);
-    assert.deepStrictEqual(y.Session.fromJSON(JSON.parse(JSON.stringify(session))), session);
+    assert.deepStrictEqual(y.Session.fromJSON(session.jsonText()), session);
     assert.equal(JSON.stringify(new y.Hasher()), JSON.stringify({ hash: y.dataHash(new Uint8Array()) }));
+});
+
+/** For each class that has a text of JSON, an object with a chunk of some size. */
+function objectsOf(size) {
+    const chunks = [[y.Hash.fromHex("1".repeat(64)), size], [y.Hash.randomFromSeed(1), 7]];
+    const session = new y.Session({ keepHashes: false });
+    session.put(4, chunks.slice(0, 1));
+    return [y.Subtree.fromChunks(false, chunks, true), y.RangeProof.fromChunks(chunks, 0, 1), session];
+}
+
+test("JSON.stringify writes a text that fromJSON reads as the same object", () => {
+    for (const it of [...objectsOf(5), ...objectsOf(2n ** 53n - 10n), y.Hash.randomFromSeed(1), y.Chunks.from(list(3)), new y.Chunks()]) {
+        const text = JSON.stringify(it);
+        if (it.jsonText) assert.equal(text, it.jsonText());
+        assert.equal(JSON.stringify([{ it }]), `[{"it":${text}}]`);
+        for (const given of [text, JSON.stringify(it, null, 4)]) assert.deepStrictEqual(it.constructor.fromJSON(given), it);
+    }
+});
+
+test("JSON.stringify writes a number of 2^53 or more if the engine can, and else it throws", () => {
+    // Node 20 has JSON.rawJSON behind a flag.
+    setFlagsFromString("--harmony-json-parse-with-source");
+    const { rawJSON } = runInNewContext("JSON");
+    const before = Object.getOwnPropertyDescriptor(JSON, "rawJSON");
+    const define = (value) => Object.defineProperty(JSON, "rawJSON", { value, configurable: true });
+    const great = [2n ** 53n, 2n ** 53n + 1n, 2n ** 64n - 8n].flatMap((size) => objectsOf(size).map((it) => [it, size]));
+    const words = y.Session.fromJSON('{"runs":[],"known_hashes":[[9007199254740993,2,3,4]]}');
+    try {
+        for (const [it, number] of [...great, [words, 2n ** 53n + 1n]]) {
+            define(undefined);
+            const error = new RangeError(`this engine's JSON.stringify writes no number of 2^53 or more, got ${number}: use jsonText()`);
+            assert.throws(() => JSON.stringify(it), error);
+            define(rawJSON);
+            assert.equal(JSON.stringify(it), it.jsonText());
+            assert.deepStrictEqual(it.constructor.fromJSON(JSON.stringify(it)), it);
+        }
+    } finally {
+        if (before) Object.defineProperty(JSON, "rawJSON", before);
+        else delete JSON.rawJSON;
+    }
 });
 
 test("JSON that is none of chunks or a session is refused", () => {
     const hex = "0".repeat(64);
-    for (const pairs of [null, 5, "ab", [[hex]], [[hex, 1]], [[hex, "01"]], [[hex, "-1"]], [[hex, ""]], [[hex, "1e3"]], [[1, "1"]]]) {
+    for (const pairs of [null, 5, [[hex]], [[hex, 1]], [[hex, "01"]], [[hex, "-1"]], [[hex, ""]], [[hex, "1e3"]], [[1, "1"]]]) {
         assert.throws(() => y.Chunks.fromJSON(pairs), TypeError, JSON.stringify(pairs));
     }
     assert.throws(() => y.Chunks.fromJSON([[hex, `${2n ** 64n}`]]), RangeError);
     assert.throws(() => y.Chunks.fromJSON([["0", "1"]]), errors.InvalidText);
+    for (const kind of [y.Chunks, y.Hash]) {
+        for (const text of ["", "ab", hex, `"${hex}`]) {
+            assert.throws(() => kind.fromJSON(text), new errors.InvalidText(`the text must be JSON, got ${JSON.stringify(text)}`));
+        }
+        for (const text of ["null", "5", "{}", `["${hex}"]`]) assert.throws(() => kind.fromJSON(text), TypeError, text);
+    }
+    assert.throws(() => y.Hash.fromJSON('"0"'), errors.InvalidText);
     const { runs, knownHashes } = sessionOf([4, 2]).saved;
     const [[first, end, json]] = runs;
     const table = [
@@ -249,7 +298,7 @@ test("JSON that is none of chunks or a session is refused", () => {
         assert.throws(() => y.Session.restore({ runs: [run], knownHashes }), new TypeError(message));
     }
     for (const text of [null, undefined, 5, {}, [], new y.Session()]) assert.throws(() => y.Session.fromJSON(text), TypeError);
-    const text = Buffer.from(sessionOf([4, 2]).toJSON());
+    const text = Buffer.from(sessionOf([4, 2]).jsonText());
     const shared = new Uint8Array(new SharedArrayBuffer(text.length));
     shared.set(text);
     assert.deepStrictEqual(y.Session.fromJSON(shared), sessionOf([4, 2]));
@@ -260,7 +309,7 @@ test("JSON that is none of chunks or a session is refused", () => {
 });
 
 test("a session's text is read as it was, though it changes meanwhile", async () => {
-    const before = sessionOf([4, 2]).toJSON();
+    const before = sessionOf([4, 2]).jsonText();
     const text = Buffer.from(before);
     const { yurewha } = await wrapped(BYTES, (exports) => ({
         ...exports,
@@ -269,7 +318,7 @@ test("a session's text is read as it was, though it changes meanwhile", async ()
             return exports.yurewha_session_from_json(...given);
         },
     }));
-    assert.equal(yurewha.Session.fromJSON(text).toJSON(), before);
+    assert.equal(yurewha.Session.fromJSON(text).jsonText(), before);
 });
 
 test("a saved session has this form", () => {
@@ -279,14 +328,14 @@ test("a saved session has this form", () => {
     assert.equal(JSON.stringify(session.saved), text);
     const word = BigInt(`0x${"1".repeat(16)}`);
     const words = [word, 2n * word].map((it) => `[${it},${it},${it},${it}]`);
-    assert.equal(session.toJSON(), `{"runs":[{"first":4,"end":5,"chunks":${json}}],"known_hashes":[${words}]}`);
+    assert.equal(session.jsonText(), `{"runs":[{"first":4,"end":5,"chunks":${json}}],"known_hashes":[${words}]}`);
 });
 
 test("the first rule that a session's JSON breaks is named", () => {
     const of = (...runs) => `{"runs":[${runs}],"known_hashes":[]}`;
     const run = (first, end, chunks) => `{"first":${first},"end":${end},"chunks":${chunks}}`;
-    const [range, marked] = [y.Subtree.fromChunks(false, list(1), false), y.Subtree.fromChunks(true, list(1), false)].map((it) => it.toJSON());
-    const great = y.Subtree.fromChunks(false, [[new y.Hash(), 2n ** 64n - 1n]], false).toJSON();
+    const [range, marked] = [y.Subtree.fromChunks(false, list(1), false), y.Subtree.fromChunks(true, list(1), false)].map((it) => it.jsonText());
+    const great = y.Subtree.fromChunks(false, [[new y.Hash(), 2n ** 64n - 1n]], false).jsonText();
     const strict = (got) => `the text must be JSON in which no object has a member twice, got ${got}`;
     const table = [
         ["nope", new errors.InvalidText(strict('"nope"'))],

@@ -1,11 +1,13 @@
 // The scripts of tests/vectors/, through the module: calls of the library with their answers.
 
 import assert from "node:assert/strict";
+import { execFileSync } from "node:child_process";
 import { readFileSync, readdirSync } from "node:fs";
+import { fileURLToPath } from "node:url";
 import * as errors from "../yurewha/index.js";
 import { BYTES, ROOT, chunksOf, mixed, test } from "./support.js";
 
-const FOLDER = new URL("tests/vectors/scripts/", ROOT);
+const FOLDER = new URL("tests/vectors/out/scripts/", ROOT);
 const NAMES = [
     "files",
     "hashes",
@@ -21,6 +23,11 @@ const NAMES = [
     "upstream",
 ];
 const y = await errors.load(BYTES);
+try {
+    execFileSync("python3", [fileURLToPath(new URL("tests/vectors/make_vectors", ROOT)), "--scripts"]);
+} catch (cause) {
+    throw new Error("python3 tests/vectors/make_vectors --scripts makes the scripts, and failed", { cause });
+}
 
 // ---- Calls: what each call of the library is here
 
@@ -86,7 +93,7 @@ const CALLS = {
     subtree_merge: (subtrees) => y.Subtree.merge(subtrees),
     subtree_final_hash: (subtree) => subtree.finalHash(),
     subtree_file_hash: (subtree, salt) => subtree.fileHash(salt),
-    subtree_to_json: (subtree) => subtree.toJSON(),
+    subtree_to_json: (subtree) => subtree.jsonText(),
     subtree_from_json: (text) => y.Subtree.fromJSON(text),
     subtree_from_flat: (atStart, levels, nodes, atEnd) => y.Subtree.fromFlat({ atStart, levels, nodes, atEnd }),
     session_new: () => new y.Session(),
@@ -112,7 +119,7 @@ const CALLS = {
     session_known_hashes: (session) => session.knownHashes().map(String).sort(),
     session_knows: (session, hash) => session.knows(hash),
     session_knows_each: (session, hashes) => hashes.map((hash) => session.knows(hash)),
-    session_to_json: (session) => session.toJSON(),
+    session_to_json: (session) => session.jsonText(),
     session_from_json: (text) => y.Session.fromJSON(text),
     hash_tree_from_chunks: (chunks) => y.HashTree.fromChunks(chunks),
     hash_tree_root: (tree) => tree.root,
@@ -126,7 +133,7 @@ const CALLS = {
     range_proof_from_chunks: (chunks, first, end) => y.RangeProof.fromChunks(chunks, first, end),
     range_proof_levels: (proof) => proof.toFlat().levels,
     range_proof_nodes: (proof) => linesOf(proof.toFlat().nodes),
-    range_proof_to_json: (proof) => proof.toJSON(),
+    range_proof_to_json: (proof) => proof.jsonText(),
     range_proof_from_json: (text) => y.RangeProof.fromJSON(text),
     range_proof_from_flat: (levels, nodes) => y.RangeProof.fromFlat({ levels, nodes }),
     range_proof_to_bytes: (proof) => proof.bytes,
@@ -241,10 +248,10 @@ function said(it, call) {
 /** All that the objects say of themselves. */
 function state(it) {
     if (it instanceof y.HashTree) return it.root.hex();
-    if (it instanceof y.OpenedRange) return it.proof.toJSON();
+    if (it instanceof y.OpenedRange) return it.proof.jsonText();
     if (it instanceof y.HashIndex) return it.saved;
     if (it instanceof y.Chunker) return it.state;
-    return it instanceof y.Hasher || it instanceof y.FileHasher ? it.hash.hex() : (it.toJSON?.() ?? null);
+    return it instanceof y.Hasher || it instanceof y.FileHasher ? it.hash.hex() : (it.jsonText?.() ?? it.toJSON?.() ?? null);
 }
 const states = (objects) => Object.values(objects).map(state);
 

@@ -40,7 +40,7 @@ function counted(call) {
 /** What answers requests for data and proofs. Members of `answers` take the place of honest answers. */
 async function served(answers = {}) {
     const honest = {
-        proof: (response, start, end) => response.end(proofOf(start, end).toJSON()),
+        proof: (response, start, end) => response.end(proofOf(start, end).jsonText()),
         data: (response, start, end) => response.writeHead(206).end(bytesOf(start, end)),
     };
     const asked = { ranges: [], closed: 0 };

@@ -69,11 +69,14 @@ function isBuffer(value) {
     }
 }
 
-/** The UTF-8 bytes of a text. */
-export function text(value, what) {
+/** A value that is a string. */
+export function string(value, what) {
     if (typeof value !== "string") throw wrongType(what, "be a string", value);
-    return encoder.encode(value);
+    return value;
 }
+
+/** The UTF-8 bytes of a text. */
+export const text = (value, what) => encoder.encode(string(value, what));
 
 /** A number from 0 to 2^64 - 1 as a BigInt, from its decimal digits. */
 export function decimal(value, what) {

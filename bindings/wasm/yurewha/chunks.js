@@ -3,6 +3,7 @@
 import { bytes, decimal, mustBe, pairOf, u64 } from "./arguments.js";
 import { InvalidArguments } from "./errors.js";
 import { HASH_LENGTH } from "./hash.js";
+import { valueOf } from "./json.js";
 import { inspected, showing, textless } from "./shown.js";
 
 export const CHUNK_LENGTH = 40;
@@ -32,7 +33,8 @@ export function makeChunks({ Hash, rawOf }) {
             return isChunks(chunks) ? chunks : new Chunks(packed(chunks));
         }
 
-        static fromJSON(pairs) {
+        static fromJSON(json) {
+            const pairs = typeof json === "string" ? valueOf(json) : json;
             return new Chunks(packed([...pairs].map(read)));
         }
 

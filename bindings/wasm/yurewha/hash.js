@@ -1,14 +1,44 @@
 // Hashes: values of 32 bytes.
 
-import { bytes, mustBe, text, u64, wrongType } from "./arguments.js";
+import { bytes, mustBe, string, text, u64, wrongType } from "./arguments.js";
 import { BASE64_LENGTH, HEX_LENGTH } from "./constants.js";
-import { InvalidArguments, STATUS } from "./errors.js";
+import { InvalidArguments, InvalidText, STATUS } from "./errors.js";
+import { valueOf } from "./json.js";
 import { inspected, showing } from "./shown.js";
 
 export const HASH_LENGTH = 32;
-const HEX = "be 64 hex digits";
+/** The bytes of the default hash. */
+const ZEROS = new Uint8Array(HASH_LENGTH);
 const BASE64 = "be 43 characters that base64() gives";
 const decoder = new TextDecoder();
+
+/** The two hex digits of each byte. */
+const DIGITS = Array.from({ length: 256 }, (_, byte) => byte.toString(16).padStart(2, "0"));
+/** The value of the hex digit with some code. Other codes have none, or one above 15. */
+const VALUES = new Uint8Array(128).fill(255);
+[..."0123456789abcdef"].forEach((digit, value) => {
+    for (const it of [digit, digit.toUpperCase()]) VALUES[it.charCodeAt(0)] = value;
+});
+
+/** The hex text of a hash. It has each group of eight bytes in reverse. */
+function hexOf(raw) {
+    let hex = "";
+    for (let place = 0; place < HASH_LENGTH; place++) hex += DIGITS[raw[place ^ 7]];
+    return hex;
+}
+
+/** The bytes of the hash with some hex text, or null if a text isn't 64 hex digits. */
+function ofHex(hex) {
+    if (hex.length !== HEX_LENGTH) return null;
+    const raw = new Uint8Array(HASH_LENGTH);
+    for (let place = 0; place < HASH_LENGTH; place++) {
+        const high = VALUES[hex.charCodeAt(2 * place)];
+        const low = VALUES[hex.charCodeAt(2 * place + 1)];
+        if (!(high < 16 && low < 16)) return null;
+        raw[place ^ 7] = 16 * high + low;
+    }
+    return raw;
+}
 
 /** A copy of 32 bytes. */
 export function thirtyTwo(value, what) {
@@ -19,10 +49,10 @@ export function thirtyTwo(value, what) {
 
 /**
  * The class `Hash` over a library, and what looks into its objects. The memory of a module is little-endian, so the struct of a
- * hash there is its 32 bytes.
+ * hash there is its 32 bytes. `made` makes a hash of 32 bytes that nobody else has, without a copy.
  */
 export function makeHash(library) {
-    let rawOf;
+    let made, rawOf;
     class Hash {
         #raw;
 
@@ -33,19 +63,35 @@ export function makeHash(library) {
                 }
                 return hash.#raw;
             };
+            made = (raw) => {
+                const hash = new Hash();
+                hash.#raw = raw;
+                return hash;
+            };
         }
 
-        constructor(raw = new Uint8Array(HASH_LENGTH)) {
-            this.#raw = thirtyTwo(raw, "a hash");
+        constructor(raw) {
+            this.#raw = raw === undefined ? ZEROS : thirtyTwo(raw, "a hash");
             show(this);
         }
 
         static fromHex(hex) {
-            return parsed("yurewha_from_hex", hex, "the hex text of a hash", HEX);
+            const raw = ofHex(string(hex, "the hex text of a hash"));
+            if (raw === null) throw new InvalidText(mustBe("the hex text of a hash", "be 64 hex digits", hex));
+            return made(raw);
         }
 
         static fromBase64(base64) {
-            return parsed("yurewha_from_base64", base64, "the base64 text of a hash", BASE64);
+            const what = "the base64 text of a hash";
+            const given = text(base64, what);
+            return result([given], (at, out) => {
+                const status = library.call("yurewha_from_base64", at, BigInt(given.length), out);
+                if (status !== STATUS.DONE) library.check(status, mustBe(what, BASE64, base64));
+            });
+        }
+
+        static fromJSON(json) {
+            return Hash.fromHex(valueOf(json));
         }
 
         static randomFromSeed(seed) {
@@ -58,11 +104,14 @@ export function makeHash(library) {
         }
 
         hex() {
-            return written("yurewha_hex", this.#raw, HEX_LENGTH);
+            return hexOf(this.#raw);
         }
 
         base64() {
-            return written("yurewha_base64", this.#raw, BASE64_LENGTH);
+            return library.over([this.#raw, BASE64_LENGTH, 8], (hash, room, out) => {
+                library.check(library.call("yurewha_base64", hash, room, BigInt(BASE64_LENGTH), out));
+                return decoder.decode(library.read(room, BASE64_LENGTH));
+            });
         }
 
         hmac(key) {
@@ -100,7 +149,7 @@ export function makeHash(library) {
     function result(parts, run) {
         return library.over([...parts, HASH_LENGTH], (...pointers) => {
             run(...pointers);
-            return new Hash(library.read(pointers.at(-1), HASH_LENGTH));
+            return made(library.read(pointers.at(-1), HASH_LENGTH));
         });
     }
     /** The bytes of some hashes, side by side. */
@@ -112,20 +161,8 @@ export function makeHash(library) {
     };
     /** The hashes that stand side by side. */
     const unpacked = (block) =>
-        Array.from({ length: block.length / HASH_LENGTH }, (_, k) => new Hash(block.subarray(HASH_LENGTH * k, HASH_LENGTH * (k + 1))));
+        Array.from({ length: block.length / HASH_LENGTH }, (_, k) => made(block.slice(HASH_LENGTH * k, HASH_LENGTH * (k + 1))));
     /** The keyed hash of 32 bytes under 32 bytes. */
     const hmac = (raw, key) => result([raw, key], (...pointers) => library.call("yurewha_hmac", ...pointers));
-    const parsed = (name, value, what, rule) => {
-        const given = text(value, what);
-        return result([given], (at, out) => {
-            const status = library.call(name, at, BigInt(given.length), out);
-            if (status !== STATUS.DONE) library.check(status, mustBe(what, rule, value));
-        });
-    };
-    const written = (name, raw, length) =>
-        library.over([raw, length, 8], (hash, room, out) => {
-            library.check(library.call(name, hash, room, BigInt(length), out));
-            return decoder.decode(library.read(room, length));
-        });
     return { Hash, rawOf, result, packedHashes, unpacked, hmac };
 }

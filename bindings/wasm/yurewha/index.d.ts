@@ -9,7 +9,7 @@
  * Objects keep their bytes in private members. What comparisons need is an own property of each, so `deepStrictEqual` of two
  * objects compares their values. A structured clone is a plain object with these properties, and no call takes it. A conversion to text
  * throws a `TypeError`, but for a `Hash`: "[object Object]" would be wrong data in a template, a `Response` or a `Blob`. To hand an
- * object to a worker, send what it can be made of again: `bytes` of a `Hash`, `Chunks` or `RangeProof`, `toJSON()` of a
+ * object to a worker, send what it can be made of again: `bytes` of a `Hash`, `Chunks` or `RangeProof`, `jsonText()` of a
  * `Subtree` or `Session`, `saved` of a `HashIndex`.
  */
 
@@ -286,6 +286,10 @@ export interface HashConstructor {
      * @throws OutOfMemory the memory can't grow */
     fromBase64(text: string): Hash;
 
+    /** Reads a hash from JSON text: a string with its hex text. Another value is a `TypeError`.
+     * @throws InvalidText the text isn't JSON, or the string isn't 64 hex digits */
+    fromJSON(text: string): Hash;
+
     /** Returns a pseudorandom hash, for tests. */
     randomFromSeed(seed: U64): Hash;
 }
@@ -328,9 +332,9 @@ export interface ChunksConstructor {
     /** Packs a list. */
     from(chunks: ChunkList): Chunks;
 
-    /** Makes a list of the pairs that `toJSON` returns.
-     * @throws InvalidText a hex text isn't 64 hex digits */
-    fromJSON(pairs: Iterable<readonly [hex: string, size: string]>): Chunks;
+    /** Makes a list of the pairs that `toJSON` returns, or of their JSON text.
+     * @throws InvalidText the text isn't JSON, or a hex text isn't 64 hex digits */
+    fromJSON(json: string | Iterable<readonly [hex: string, size: string]>): Chunks;
 }
 
 /**
@@ -488,7 +492,7 @@ export interface Freed {
  * const chunks = Array.from({ length: 60 }, (_, seed) => [y.Hash.randomFromSeed(seed), 1000]);
  * const front = y.Subtree.fromChunks(true, chunks.slice(0, 25), false);
  * const back = y.Subtree.fromChunks(false, chunks.slice(25), true);
- * const sent = y.Subtree.fromJSON(back.toJSON()); // as another machine gets it
+ * const sent = y.Subtree.fromJSON(JSON.stringify(back)); // as another machine gets it
  * front.mergeInto(sent);
  * console.log(front.finish().equals(y.fileHash(chunks)), front.totalSize); // true 60000n
  * for (const range of [front, back, sent]) range.free();
@@ -538,13 +542,16 @@ export interface Subtree extends Freed {
     /** Returns whether both have the same marks, levels and nodes. */
     equals(other: Subtree): boolean;
 
-    /** Returns the subtree as compact JSON text. It is a string because sizes may be more than 2^53, so `JSON.stringify` writes a
-     * string too. */
-    toJSON(): string;
+    /** Returns the subtree as compact JSON text. */
+    jsonText(): string;
+
+    /** Returns what `JSON.stringify` writes as this text. In an engine without `JSON.rawJSON`, such as Node 20, a number of 2^53 or more is
+     * a `RangeError`. */
+    toJSON(): object;
 
     toFlat(): Flat;
 
-    /** Throws a `TypeError`: use `toJSON`. */
+    /** Throws a `TypeError`: use `jsonText`. */
     toString(): never;
 }
 
@@ -600,7 +607,7 @@ export interface FlatInput {
  * const session = new y.Session();
  * session.put(3, chunks.slice(3));
  * console.log(session.gaps(5)); // [ [ 0n, 3n ] ]
- * const text = session.toJSON(); // what a file keeps
+ * const text = session.jsonText(); // what a file keeps
  * const restored = y.Session.fromJSON(text);
  * console.log(restored.put(0, chunks.slice(0, 3)), restored.finish(5).equals(y.fileHash(chunks))); // 3 true
  * for (const it of [session, restored]) it.free();
@@ -691,7 +698,10 @@ export interface Session extends Freed {
 
     /** Returns the session as compact JSON text, which the Rust crate and the Python package read, too. It has `runs` with the positions
      * `first` and `end` and with `chunks`, the subtree, and `known_hashes` with the four words of each hash, in rising order. */
-    toJSON(): string;
+    jsonText(): string;
+
+    /** Returns what `JSON.stringify` writes as this text, as for a `Subtree`. The hashes that a session keeps are such numbers. */
+    toJSON(): object;
 
     /** The whole session as lists, of which `restore` makes it again, also from a structured clone. */
     readonly saved: SavedSession;
@@ -709,7 +719,7 @@ export interface Session extends Freed {
     /** Returns a session with the same chunks, which knows the same hashes, and keeps hashes if this one does. */
     clone(): Session;
 
-    /** Throws a `TypeError`: use `toJSON`. */
+    /** Throws a `TypeError`: use `jsonText`. */
     toString(): never;
 }
 
@@ -724,7 +734,7 @@ export interface SessionConstructor {
     new (options?: SessionOptions): Session;
     readonly prototype: Session;
 
-    /** Reads what `toJSON` returned here, or what Rust or Python wrote. There may be other members. That a run has as many chunks as
+    /** Reads what `jsonText` returned here, or what Rust or Python wrote. There may be other members. That a run has as many chunks as
      * positions can't be checked. If several things are wrong, the error is of the first of these, whichever run it is in.
      * @throws InvalidText the text isn't JSON or has another form, or a member occurs twice in one object
      * @throws InvalidJson a subtree breaks a rule
@@ -901,7 +911,7 @@ export interface HashTreeConstructor {
  * ```js
  * const chunks = Array.from({ length: 30 }, (_, seed) => [y.Hash.randomFromSeed(seed), 50]);
  * const proof = y.RangeProof.fromChunks(chunks, 7, 9);
- * const sent = y.RangeProof.fromJSON(proof.toJSON());
+ * const sent = y.RangeProof.fromJSON(JSON.stringify(proof));
  * console.log(sent.equals(proof), sent.chunks.length, new y.RangeProof(proof.bytes).equals(proof)); // true 2 true
  * try {
  *     sent.open(y.Hash.randomFromSeed(1)); // the hash of another file
@@ -943,13 +953,15 @@ export interface RangeProof {
     /** Returns whether both have the same chunks, and the same nodes on the sides of each level. */
     equals(other: RangeProof): boolean;
 
-    /** Returns the proof as compact JSON text. It is a string because sizes may be more than 2^53, so `JSON.stringify` writes a string
-     * too. */
-    toJSON(): string;
+    /** Returns the proof as compact JSON text. */
+    jsonText(): string;
+
+    /** Returns what `JSON.stringify` writes as this text, as for a `Subtree`. */
+    toJSON(): object;
 
     toFlat(): FlatProof;
 
-    /** Throws a `TypeError`: use `bytes` or `toJSON`. */
+    /** Throws a `TypeError`: use `bytes` or `jsonText`. */
     toString(): never;
 }
 

@@ -4,6 +4,7 @@ import { bytes, mustBe, noJson, text, u64, wrongType } from "./arguments.js";
 import { CHUNK_LENGTH } from "./chunks.js";
 import { InvalidArguments, InvalidProof, ProofTooLong, STATUS } from "./errors.js";
 import { HASH_LENGTH, thirtyTwo } from "./hash.js";
+import { forStringify } from "./json.js";
 import { LEVEL_LENGTH, packedLevels, unpackedLevels } from "./levels.js";
 import { inspected, showing, textless } from "./shown.js";
 
@@ -139,11 +140,15 @@ export function makeRangeProof(library, { rawOf }, { Chunks, packedOf }, { opene
             return ["levels", "nodes"].every((name) => areSame(this.#lists[name], other.#lists[name]));
         }
 
-        toJSON() {
+        jsonText() {
             const { levels, nodes } = this.#lists;
             return library.text([levels, nodes], (levelsAt, nodesAt, ...room) =>
                 library.call("yurewha_range_proof_to_json", ...lent(this.#lists, levelsAt, nodesAt), ...room),
             );
+        }
+
+        toJSON() {
+            return forStringify(this.jsonText());
         }
 
         toFlat() {
@@ -163,7 +168,7 @@ export function makeRangeProof(library, { rawOf }, { Chunks, packedOf }, { opene
         }
     }
     const show = showing(RangeProof, ["bytes"]);
-    textless(RangeProof, "RangeProof", "its bytes or toJSON()");
+    textless(RangeProof, "RangeProof", "its bytes or jsonText()");
     inspected(RangeProof, "RangeProof", ({ chunks, numLevels }, inspect) => ` ${inspect({ chunks, numLevels })}`);
 
     /** The arguments of flat lists that stand at two places. */

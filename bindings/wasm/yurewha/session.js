@@ -5,6 +5,7 @@ import { CHUNK_LENGTH } from "./chunks.js";
 import { STATUS, SessionGap, SessionOverlap, sessionSizes } from "./errors.js";
 import { Handle, Handles, disposable } from "./handle.js";
 import { HASH_LENGTH, thirtyTwo } from "./hash.js";
+import { forStringify } from "./json.js";
 import { inspected, showing, textless } from "./shown.js";
 
 const KEEPS_NONE = "this session keeps no hashes";
@@ -246,7 +247,7 @@ export function makeSession(library, { Hash, rawOf, result, packedHashes, unpack
 
         get saved() {
             const saved = ([first, end, range]) => {
-                const json = range.toJSON();
+                const json = range.jsonText();
                 range.free();
                 return [`${first}`, `${end}`, json];
             };
@@ -254,9 +255,13 @@ export function makeSession(library, { Hash, rawOf, result, packedHashes, unpack
             return { runs: Array.from(this.#allRuns(), saved), knownHashes: knownHashes.sort() };
         }
 
-        toJSON() {
+        jsonText() {
             const { pointer } = this.#handle;
             return library.text([], (...room) => library.call("yurewha_session_to_json", pointer, 1, ...room));
+        }
+
+        toJSON() {
+            return forStringify(this.jsonText());
         }
 
         root(total) {
@@ -345,7 +350,7 @@ export function makeSession(library, { Hash, rawOf, result, packedHashes, unpack
         }
     }
     const show = showing(Session, ["saved"]);
-    textless(Session, "Session", "its toJSON()");
+    textless(Session, "Session", "its jsonText()");
     inspected(Session, "Session", ({ numChunks, totalSize, numRuns }, inspect) => ` ${inspect({ numChunks, totalSize, numRuns })}`);
     return disposable(Session);
 }

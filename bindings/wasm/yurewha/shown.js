@@ -5,7 +5,8 @@ const INSPECT = Symbol.for("nodejs.util.inspect.custom");
 /** What makes some getters of a class own enumerable properties of an object, for comparisons and structured clones. */
 export function showing(kind, names) {
     const getters = Object.getOwnPropertyDescriptors(kind.prototype);
-    const shown = names.map((name) => [name, { ...getters[name], enumerable: true }]);
+    // Engines define a property faster if its description has no `set`.
+    const shown = names.map((name) => [name, { get: getters[name].get, enumerable: true, configurable: true }]);
     return (object) => shown.forEach(([name, getter]) => Object.defineProperty(object, name, getter));
 }
 

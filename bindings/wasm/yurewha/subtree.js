@@ -5,6 +5,7 @@ import { CHUNK_LENGTH } from "./chunks.js";
 import { InvalidArguments } from "./errors.js";
 import { HANDLE_LENGTH, Handle, Handles, disposable } from "./handle.js";
 import { thirtyTwo } from "./hash.js";
+import { forStringify } from "./json.js";
 import { LEVEL_LENGTH, packedLevels, unpackedLevels } from "./levels.js";
 import { inspected, showing, textless } from "./shown.js";
 
@@ -155,9 +156,13 @@ export function makeSubtree(library, { Hash, rawOf, result, hmac }, { Chunks, pa
             });
         }
 
-        toJSON() {
+        jsonText() {
             const pointer = pointerOf(this);
             return library.text([], (...room) => library.call("yurewha_subtree_to_json", pointer, ...room));
+        }
+
+        toJSON() {
+            return forStringify(this.jsonText());
         }
 
         toFlat() {
@@ -169,7 +174,7 @@ export function makeSubtree(library, { Hash, rawOf, result, hmac }, { Chunks, pa
         }
     }
     const show = showing(Subtree, ["atStart", "levels", "nodes", "atEnd"]);
-    textless(Subtree, "Subtree", "its toJSON()");
+    textless(Subtree, "Subtree", "its jsonText()");
     inspected(Subtree, "Subtree", ({ atStart, atEnd, totalSize, numLevels, numNodes }, inspect) => {
         return ` ${inspect({ atStart, atEnd, totalSize, numLevels, numNodes })}`;
     });

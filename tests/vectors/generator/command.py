@@ -4,13 +4,16 @@ from __future__ import annotations
 
 import argparse
 import concurrent.futures
+import hashlib
 import json
+import pathlib
 import sys
-from typing import Callable, Iterable
+import tempfile
+from typing import Callable, Iterable, Mapping
 
 from . import (hash_indexes, hashes, json_texts, merges, range_proofs, roots, schemas, session_scripts, session_texts, sessions, subtrees,
                texts, upstream, whole_files)
-from .files import FOLDER, File, differences
+from .files import FOLDER, File, differences, stored
 from .scripts import Script
 from .steps import script_of
 
@@ -21,31 +24,52 @@ FILES: dict[str, Maker] = {
     "range_proofs": range_proofs.file, "subtree_json": json_texts.file, "sessions": sessions.file, "session_json": session_texts.file,
     "texts": texts.file}
 BY_MODEL = {**FILES, "upstream": upstream.model_file}
-# Scripts whose calls a file of vectors doesn't have. The others are made of their files.
+# Scripts that are made of the stored files, each with what it tests.
+MEANS = {"files": whole_files.MEANS, "hashes": hashes.MEANS, "merges": merges.MEANS, "range_proofs": range_proofs.MEANS, "roots": roots.MEANS,
+         "session_json": session_texts.MEANS, "subtree_json": json_texts.MEANS, "subtrees": subtrees.MEANS, "texts": texts.MEANS,
+         "upstream": upstream.MEANS}
+# Scripts whose calls no file has.
 SCRIPTS: dict[str, Callable[[], Script]] = {"hash_indexes": hash_indexes.script, "sessions": session_scripts.script}
-ALL_SCRIPTS = tuple(dict.fromkeys((*FILES, *SCRIPTS)))
+# Where scripts are made. Git has only their sums, in the form of sha256sum.
+MADE = FOLDER / "out/scripts"
+SUMS = "scripts.sha256"
 
 
-def made(maker: Maker) -> dict[str, str]:
-    """The texts of a file of vectors and of the script that is made of it, by path."""
+def made(maker: Maker) -> tuple[str, str]:
+    """The path and the text of a file of vectors."""
     file = maker()
-    script = {} if file.name in SCRIPTS else {script_path(file.name): script_of(file).text()}
-    return {f"{file.name}.json": file.text(), **script}
-
-
-def script_path(name: str) -> str:
-    """Where the script of a subject stands."""
-    return f"scripts/{name}.jsonl"
+    return f"{file.name}.json", file.text()
 
 
 def all_texts(makers: dict[str, Maker], jobs: int) -> dict[str, str]:
-    """The texts of files of vectors, of their scripts and of their schemas, by path."""
+    """The texts of files of vectors and of their schemas, by path."""
     found = {f"schemas/{name}_schema.json": schemas.text(name) for name in (*makers, "scripts")}
     with concurrent.futures.ProcessPoolExecutor(jobs) as pool:
-        for texts_made in pool.map(made, makers.values()):
-            found.update(texts_made)
-    found.update({script_path(name): maker().text() for name, maker in SCRIPTS.items()})
+        found.update(pool.map(made, makers.values()))
     return found
+
+
+def all_scripts() -> dict[str, bytes]:
+    """All scripts, by name."""
+    scripts = [*(script_of(stored(name), means) for name, means in MEANS.items()), *(maker() for maker in SCRIPTS.values())]
+    return {f"{script.name}.jsonl": script.text().encode() for script in scripts}
+
+
+def sums_of(scripts: Mapping[str, bytes]) -> str:
+    """The sums of scripts: a line for each."""
+    return "".join(f"{hashlib.sha256(scripts[name]).hexdigest()}  {name}\n" for name in sorted(scripts))
+
+
+def write_scripts(scripts: Mapping[str, bytes]) -> None:
+    """Writes scripts, and removes others. Two processes may do so at once, as each file is moved to its place."""
+    MADE.mkdir(parents=True, exist_ok=True)
+    with tempfile.TemporaryDirectory(dir=MADE.parent) as room:
+        for name, data in scripts.items():
+            (pathlib.Path(room) / name).write_bytes(data)
+            (pathlib.Path(room) / name).replace(MADE / name)
+    for path in MADE.iterdir():
+        if path.name not in scripts:
+            path.unlink(missing_ok=True)
 
 
 def faults_of(name: str) -> Iterable[str]:
@@ -64,8 +88,8 @@ def faults_of(name: str) -> Iterable[str]:
         yield f"README.md says another number of tests of {name}.json, which has {len(tests)}"
 
 
-def faults_of_script(name: str) -> Iterable[str]:
-    """What a stored script has against the schema of its lines, and whether its head says how many tests there are."""
+def faults_of_script(name: str, data: bytes) -> Iterable[str]:
+    """What a script has against the schema of its lines, and whether its head says how many tests there are."""
     import jsonschema
 
     schema = json.loads((FOLDER / "schemas/scripts_schema.json").read_text())
@@ -73,40 +97,64 @@ def faults_of_script(name: str) -> Iterable[str]:
     # Each step is compared with what the schema says of its call alone, because its other alternatives would take minutes.
     of_call = {called: jsonschema.Draft202012Validator({**step, "$defs": schema["$defs"]}).is_valid
                for step in schemas.steps_of(schema) for called in step["prefixItems"][0]["enum"]}
-    head, *tests = (json.loads(line) for line in (FOLDER / script_path(name)).read_text().splitlines())
+    head, *tests = map(json.loads, data.splitlines())
     for number, test in enumerate([head, *tests]):
         steps = test.get("steps", [])
         if not line_is_valid({**test, "steps": steps[:1]} if steps else test) or not all(of_call[step[0]](step) for step in steps):
-            yield f"{script_path(name)}: test {number} isn't as schemas/scripts_schema.json says"
+            yield f"{name}: test {number} isn't as schemas/scripts_schema.json says"
     if [test["test"].split()[0] for test in tests] != [f"{number}" for number in range(1, head["numberOfTests"] + 1)]:
-        yield f"{script_path(name)}: the numbers of the tests aren't 1 to numberOfTests"
+        yield f"{name}: the numbers of the tests aren't 1 to numberOfTests"
 
 
-def jobs_of(description: str, arguments: list[str]) -> int:
-    """How many processes are asked for."""
+def parser_of(description: str) -> argparse.ArgumentParser:
+    """A parser of arguments, one of which is how many processes are asked for."""
     parser = argparse.ArgumentParser(description=description)
     parser.add_argument("--jobs", type=int, default=2, help="processes at a time (2)")
-    return int(parser.parse_args(arguments).jobs)
+    return parser
 
 
 def make(arguments: list[str]) -> int:
-    """Writes all files."""
-    made_texts = all_texts(FILES, jobs_of("Makes the test vectors and their schemas from tests/model/.", arguments))
+    """Writes all files, or the scripts alone."""
+    parser = parser_of("Makes the test vectors, their schemas and their scripts from tests/model/.")
+    parser.add_argument("--scripts", action="store_true", help="the scripts alone, unless they are there")
+    asked = parser.parse_args(arguments)
+    if asked.scripts:
+        return make_scripts()
+    made_texts = all_texts(FILES, asked.jobs)
     (FOLDER / "schemas").mkdir(exist_ok=True)
     for name, text in sorted(made_texts.items()):
         (FOLDER / name).write_text(text)
         print(f"{name}: {len(text)} bytes")
+    scripts = all_scripts()
+    (FOLDER / SUMS).write_text(sums_of(scripts))
+    write_scripts(scripts)
+    return 0
+
+
+def make_scripts() -> int:
+    """Writes the scripts, unless those are there that have the stored sums."""
+    wanted = (FOLDER / SUMS).read_text()
+    if sums_of({path.name: path.read_bytes() for path in MADE.glob("*")}) == wanted:
+        return 0
+    scripts = all_scripts()
+    if sums_of(scripts) != wanted:
+        print(f"tests/vectors/make_vectors: the scripts that would be made have other sums than {SUMS} says; "
+              "if they should, run this without --scripts", file=sys.stderr)
+        return 1
+    write_scripts(scripts)
     return 0
 
 
 def check(arguments: list[str]) -> int:
     """Checks that the stored files are those that are made, and keep their schemas."""
-    jobs = jobs_of("Makes the test vectors again, compares them with the stored ones, and validates those.", arguments)
+    jobs = parser_of("Makes the test vectors again, compares them with the stored ones, and validates those.").parse_args(arguments).jobs
     try:
-        faults = [fault for of, names in ((faults_of, FILES), (faults_of_script, ALL_SCRIPTS)) for name in names for fault in of(name)]
+        faults = [fault for name in FILES for fault in faults_of(name)]
+        scripts = all_scripts()
+        faults += [fault for name, data in scripts.items() for fault in faults_of_script(name, data)]
     except ImportError:
         print("tests/vectors/check: install jsonschema (Debian: python3-jsonschema)", file=sys.stderr)
         return 1
-    faults += differences(all_texts(BY_MODEL, jobs))
-    print("\n".join(faults) or f"{len(FILES)} files and {len(ALL_SCRIPTS)} scripts are what the model says, and keep their schemas")
+    faults += differences({**all_texts(BY_MODEL, jobs), SUMS: sums_of(scripts)})
+    print("\n".join(faults) or f"{len(FILES)} files and {len(scripts)} scripts are what the model says, and keep their schemas")
     return 1 if faults else 0

@@ -35,14 +35,13 @@ class Group:
 
 @dataclasses.dataclass
 class File:
-    """A file of vectors. `notes` says what each flag means, and `means` what its script tests, in the words of `header`."""
+    """A file of vectors. `notes` says what each flag means."""
 
     name: str
     algorithm: str
     header: list[str]
     notes: dict[str, str]
     groups: list[Group]
-    means: list[str] = dataclasses.field(default_factory=list)
 
     def text(self) -> str:
         """The file's text: a line for each test."""
@@ -80,6 +79,13 @@ def compact(value: Any) -> str:
     return json.dumps(value, separators=(",", ":"))
 
 
+def stored(name: str) -> File:
+    """A file as it stands in this folder."""
+    value = json.loads((FOLDER / f"{name}.json").read_text(encoding="utf-8"))
+    groups = [Group(it.pop("type"), it.pop("comment"), it.pop("tests"), it) for it in value["testGroups"]]
+    return File(name, value["algorithm"], value["header"], value["notes"], groups)
+
+
 def differences(texts: dict[str, str]) -> Iterable[str]:
     """What differs between the texts of some files and what stands in this folder."""
     for name, text in texts.items():
@@ -90,5 +96,5 @@ def differences(texts: dict[str, str]) -> Iterable[str]:
             lines = itertools.zip_longest(path.read_text().split("\n"), text.split("\n"))
             first = next(number for number, (old, new) in enumerate(lines, 1) if old != new)
             yield f"{name}: DIFFERENT from line {first} on"
-    stored = {str(path.relative_to(FOLDER)) for path in FOLDER.rglob("*.json*")}
-    yield from (f"{name}: nothing makes it" for name in sorted(stored - set(texts)))
+    there = {str(path.relative_to(FOLDER)) for pattern in ("*.json", "schemas/*") for path in FOLDER.glob(pattern)}
+    yield from (f"{name}: nothing makes it" for name in sorted(there - set(texts)))

@@ -1,4 +1,4 @@
-"""scripts/hash_indexes.jsonl: calls of indexes of hashes, with their answers."""
+"""hash_indexes.jsonl: calls of indexes of hashes, with their answers."""
 
 from __future__ import annotations
 
@@ -151,6 +151,6 @@ def many() -> dict[str, Any]:
 
 
 def script() -> Script:
-    """scripts/hash_indexes.jsonl."""
+    """hash_indexes.jsonl."""
     tests = [*examples(), *refusals(), *again(), few_words(), many(), *(drawn(seed, most) for seed, most in enumerate((3, 3, 8, 8, 20, 20, 50)))]
     return Script("hash_indexes", HEADER, NOTES, tests)

@@ -34,7 +34,7 @@ NOTES = {
 
 def message(length: int) -> bytes:
     """The message of a length."""
-    return bytes(i % 251 for i in range(length))
+    return (bytes(range(251)) * (length // 251 + 1))[:length]
 
 
 def flags(length: int) -> list[str]:
@@ -95,4 +95,4 @@ def file() -> File:
     """hashes.json."""
     groups = [of_lengths("data", m.DATA_KEY, LENGTHS), of_lengths("internal", m.INTERNAL_KEY, (*SHORT, 792)),
               of_lengths("given", GIVEN_KEY, SHORT), in_pieces(), keys(), seeds(), hmacs()]
-    return File("hashes", "keyed BLAKE3 with the keys of Xet", HEADER, NOTES, groups, MEANS)
+    return File("hashes", "keyed BLAKE3 with the keys of Xet", HEADER, NOTES, groups)

@@ -224,4 +224,4 @@ def drawn() -> Group:
 
 def file() -> File:
     """subtree_json.json."""
-    return File("subtree_json", "JSON of subtrees", HEADER, NOTES, [good(), not_json(), broken(), drawn()], MEANS)
+    return File("subtree_json", "JSON of subtrees", HEADER, NOTES, [good(), not_json(), broken(), drawn()])

@@ -210,4 +210,4 @@ def other_bracketings() -> list[Group]:
 def file() -> File:
     """merges.json."""
     return File("merges", "merging of canonical subtrees of adjacent ranges", HEADER, NOTES,
-                [every_cut(), short(), longer(), refusals(), of_the_rust_crate(), *other_bracketings()], MEANS)
+                [every_cut(), short(), longer(), refusals(), of_the_rust_crate(), *other_bracketings()])

@@ -55,6 +55,7 @@ HEADER = [
     "or of these.",
     *(f"Rule {number} of bytes: {text}." for number, text in proof_texts.BYTE_RULES.items()),
 ]
+MEANS = [*HEADER, differences.ANSWER]
 NOTES = {
     "NoChunk": "There are no chunks, so there is no proof.",
     "OneChunk": "The file has one chunk: the proof has no level.",
@@ -251,4 +252,4 @@ def file() -> File:
     """range_proofs.json."""
     groups = [examples(), refusals(), of_sizes(), every_range(), drawn(), long_lists(), *opened_proofs.groups(),
               *proof_texts.groups(), *differences.groups()]
-    return File("range_proofs", "proofs of parts of files", HEADER, NOTES, groups, [*HEADER, differences.ANSWER])
+    return File("range_proofs", "proofs of parts of files", HEADER, NOTES, groups)

@@ -140,4 +140,4 @@ def steps() -> Group:
 def file() -> File:
     """roots.json."""
     groups = [references(), parents(), steps(), of_sizes(), every_pattern(), shaped(), long_lists()]
-    return File("roots", "roots and file hashes of lists of chunks", HEADER, NOTES, groups, MEANS)
+    return File("roots", "roots and file hashes of lists of chunks", HEADER, NOTES, groups)

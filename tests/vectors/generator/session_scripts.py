@@ -1,4 +1,4 @@
-"""scripts/sessions.jsonl: calls of sessions, with their answers."""
+"""sessions.jsonl: calls of sessions, with their answers."""
 
 from __future__ import annotations
 
@@ -392,5 +392,5 @@ def drawn() -> list[dict[str, Any]]:
 
 
 def script() -> Script:
-    """scripts/sessions.jsonl."""
+    """sessions.jsonl."""
     return Script("sessions", HEADER, NOTES, [*examples(), *faults(), *saves(), *without_hashes(), *parts(), *drawn()])

@@ -259,4 +259,4 @@ def broken() -> Group:
 
 def file() -> File:
     """session_json.json."""
-    return File("session_json", "JSON of sessions", HEADER, NOTES, [good(), spellings(), not_json(), of_another_form(), broken()], MEANS)
+    return File("session_json", "JSON of sessions", HEADER, NOTES, [good(), spellings(), not_json(), of_another_form(), broken()])

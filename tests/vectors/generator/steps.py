@@ -69,14 +69,14 @@ def piece_hash(_: Group, it: Test) -> Steps:
         yield refused("data_hashes", data(0, at), [0, at, at - 1], error="ARGUMENTS")
 
 
-def chunk_ends(pieces: list[whole_files.Said]) -> Steps:
-    """Where the chunks of a file end, by a chunker that gets its pieces."""
-    file = b"".join(map(whole_files.bytes_of, pieces))
-    ends = whole_files.ends_of(file)
+def chunk_ends(pieces: list[whole_files.Said], cuts: list[int]) -> Steps:
+    """Where the chunks of a file end, by a chunker that gets its pieces. The last cut is no end if the chunk would go on."""
+    made = list(map(whole_files.bytes_of, pieces))
+    last_chunk = b"".join(made)[[0, 0, *cuts][-2]:]
+    ends = cuts if whole_files.ends_of(last_chunk) else cuts[:-1]
     at = last = 0
     yield call("chunker_begin", makes="c")
-    for piece in pieces:
-        length = len(whole_files.bytes_of(piece))
+    for piece, length in zip(pieces, map(len, made)):
         inside = [end for end in ends if at < end <= at + length]
         places = [at, *inside]
         for start, end in zip(places, inside):
@@ -88,7 +88,7 @@ def chunk_ends(pieces: list[whole_files.Said]) -> Steps:
 
 def file_hash(_: Group, it: Test) -> Steps:
     """A file in pieces: its chunks, and its hashes, which can also be asked for before its end."""
-    yield from chunk_ends(it["pieces"])
+    yield from chunk_ends(it["pieces"], it["cuts"])
     yield call("file_hasher_new", makes="f")
     for place, piece in enumerate(it["pieces"]):
         yield call("file_hasher_update", "f", piece)
@@ -457,8 +457,8 @@ KINDS: dict[str, Callable[[Group, Test], Iterable[Step]]] = {
 TOLD = ("words", "rustFinalHash")
 
 
-def script_of(file: File) -> Script:
-    """The script of a file of vectors."""
+def script_of(file: File, means: list[str]) -> Script:
+    """The script of a file of vectors, and what it tests, in the words of the file's header."""
     tests = []
     for group in file.groups:
         for it in group.tests:
@@ -468,7 +468,7 @@ def script_of(file: File) -> Script:
                 told["groups"] = [level["groups"] for level in it["steps"]]
             tests.append(a_test(comment, KINDS[group.type](group, it), *it["flags"], **told))
     rule = "PROOF_RULE" if file.name == "range_proofs" else "RULE"
-    return Script(file.name, [with_statuses(text, {**ERRORS, "InvalidJson": rule}) for text in file.means], file.notes, tests)
+    return Script(file.name, [with_statuses(text, {**ERRORS, "InvalidJson": rule}) for text in means], file.notes, tests)
 
 
 def with_statuses(text: str, statuses: dict[str, str]) -> str:

@@ -105,4 +105,4 @@ def of_sizes() -> Group:
 def file() -> File:
     """subtrees.json."""
     return File("subtrees", "canonical subtrees", HEADER, NOTES,
-                [points(), whole_texts(), of_sizes(), every_pattern(), longer()], MEANS)
+                [points(), whole_texts(), of_sizes(), every_pattern(), longer()])

@@ -127,4 +127,4 @@ def order() -> Group:
 
 def file() -> File:
     """texts.json."""
-    return File("texts", "forms of a hash", HEADER, NOTES, [forms(), hex_texts(), base64_texts(), order()], MEANS)
+    return File("texts", "forms of a hash", HEADER, NOTES, [forms(), hex_texts(), base64_texts(), order()])

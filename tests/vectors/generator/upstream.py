@@ -20,6 +20,7 @@ HEADER = [
     "subtree's compact JSON text, with members in alphabetical order.",
     "`size` is the sum of the list's sizes. `finalHash` is the list's root if both ends are marked, else null.",
 ]
+MEANS = HEADER[:1]
 NOTES = {**roots.NOTES, **subtrees.NOTES}
 
 
@@ -43,7 +44,7 @@ def file_with(answered: Callable[[str, Test], Test]) -> File:
               for group in stored]
     used = {flag for group in groups for test in group.tests for flag in test["flags"]}
     notes = {flag: note for flag, note in NOTES.items() if flag in used}
-    return File("upstream", "roots and canonical subtrees, by xet-core-structures 1.5.2", HEADER, notes, groups, HEADER[:1])
+    return File("upstream", "roots and canonical subtrees, by xet-core-structures 1.5.2", HEADER, notes, groups)
 
 
 def kept_file() -> File:

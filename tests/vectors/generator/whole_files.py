@@ -17,13 +17,16 @@ THREE = "00948f"
 SALT = bytes(range(32))
 LEAST, MOST = chunker.LEAST, chunker.MOST
 LENGTHS = (0, 1, 63, 64, 65, LEAST - 1, LEAST, LEAST + 1, MOST - 1, MOST, MOST + 1, MOST + LEAST, 2 * MOST, 2 * MOST + 1)
+#: How many mixed bytes are made at once.
+MIXED = 10**6
 
-MEANS = [
+PIECES = (
     "A file is its pieces, one after another. A piece is the hex of its bytes in order, or the bytes from a up to b - 1 of one of these: "
     "`message`, whose byte i is i mod 251; `repeated`, these bytes again and again, of which `part` has a and b; `mixed`, the numbers of "
-    "SplitMix64 from the seed 0 on, each with its lowest byte first."]
+    "SplitMix64 from the seed 0 on, each with its lowest byte first.")
+MEANS = [PIECES, "`chunker_next_boundary` answers after how many bytes of the piece the chunk ends, or null if it goes on."]
 HEADER = [
-    *MEANS,
+    PIECES,
     "`cuts` has the place where each chunk ends. `root` is the root of the chunks, `fileHash` the file hash without a salt, and `salted` has "
     "file hashes under salts.",
 ]
@@ -51,7 +54,10 @@ def bytes_of(said: Said) -> bytes:
     if rule == "repeated":
         again = bytes.fromhex(told)
         return (again * (end // len(again) + 1))[start:end]
-    return (message if rule == "message" else chunker.mixed)(end)[start:end]
+    return (message(end) if rule == "message" else mixed(max(end, MIXED)))[start:end]
+
+
+mixed = functools.cache(chunker.mixed)
 
 
 def part_of(said: Said, start: int, end: int) -> Said:
@@ -140,5 +146,4 @@ def pieces() -> Group:
 
 def file() -> File:
     """files.json."""
-    return File("files", "where the chunks of a file end, and its hashes", HEADER, NOTES, [whole(), pieces()],
-                [*MEANS, "`chunker_next_boundary` answers after how many bytes of the piece the chunk ends, or null if it goes on."])
+    return File("files", "where the chunks of a file end, and its hashes", HEADER, NOTES, [whole(), pieces()])
