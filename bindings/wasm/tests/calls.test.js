@@ -210,6 +210,8 @@ test("an object of another instance is none of this one", async () => {
     assert.throws(() => here.mergeInto(there), TypeError);
     assert.throws(() => here.equals(there), TypeError);
     assert.throws(() => y.Subtree.merge([here, there]), TypeError);
+    assert.throws(() => new y.Session().putRange(0, 1, there), TypeError);
+    assert.throws(() => new y.Session().join(new other.Session()), TypeError);
     for (const [value, got] of [[null, "null"], [undefined, "undefined"], [1, "1"], [{}, "an object"], [[], "an array"]]) {
         assert.throws(() => here.mergeInto(value), new TypeError(`a range must be a Subtree of the same module, got ${got}`));
         assert.throws(() => new y.Hash().equals(value), new TypeError(`the hash must be a Hash of the same module, got ${got}`));
