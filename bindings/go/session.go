@@ -78,9 +78,9 @@ func (s *Session) Put(first uint64, chunks []Chunk) (fresh uint64, err error) {
 	return
 }
 
-// PutRange puts a range of count chunks at the positions from first on: a copy of the subtree of these chunks, which somebody else made. The
-// session doesn't know their hashes. That the subtree is of so many chunks can't be seen. It returns ErrArguments if count is 0 or the subtree is
-// marked at an end, and otherwise errors as Put does.
+// PutRange puts a range of count chunks at the positions from first on, as Put puts chunks. The session gets a copy of their subtree, and doesn't
+// know their hashes. That the subtree is of so many chunks can't be seen. It returns ErrArguments if count is 0 or the subtree is marked at an
+// end, and otherwise errors as Put does.
 func (s *Session) PutRange(first, count uint64, subtree *Subtree) error {
 	held, err := s.handle()
 	if err != nil {

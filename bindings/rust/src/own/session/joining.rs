@@ -6,12 +6,12 @@ use crate::merklehash::merkle_hash_subtree::MerkleHashSubtree;
 use crate::status::{answer, done};
 
 impl Session {
-    /// Puts a range of `count` chunks at the positions from `first` on, as [`put`](Self::put) puts chunks: the subtree of
-    /// these chunks, which somebody else made, of which the session gets a copy.
+    /// Puts a range of `count` chunks at the positions from `first` on, as [`put`](Self::put) puts chunks. The session gets
+    /// a copy of `range`, the subtree of these chunks. It doesn't know their hashes before they are
+    /// [kept](Self::keep_hashes) or put.
     ///
-    /// The call can't check that the range is of `count` chunks. If it isn't, the root and the file hash are those of the
-    /// chunks of the subtrees, and all else goes by the positions. The session doesn't know the hashes of these chunks
-    /// before they are [kept](Self::keep_hashes) or put.
+    /// The call can't check that `range` is of `count` chunks. If it isn't, the root and the file hash are those of the
+    /// chunks of the subtrees, and all else goes by the positions.
     ///
     /// ```
     /// use yurewha::merklehash::{file_hash, MerkleHash, MerkleHashSubtree};
