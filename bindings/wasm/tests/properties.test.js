@@ -256,9 +256,10 @@ test("a VerifiedBlob asks for no more than it needs, and for one thing at a time
         ["a slice of a slice", (it) => it.slice(5 * MIB).slice(MIB, MIB + 9).bytes(), [2, 2]],
         ["all but the first chunk", (it) => it.slice(MIB).bytes(), [4, 12]],
         ["all", (it) => it.bytes(), [4, 12], [4, 13]],
-        ["the first piece of a stream, with one ahead", async (it) => {
+        ["the first piece of a stream, with one ahead", async (it, asked) => {
             const reader = it.slice(MIB).stream().getReader();
             await reader.read();
+            while (asked.fetches < 3) await setTimeout(5);
             await setTimeout(50);
         }, [3, 9]],
         ["a stream that is cancelled unread", async (it) => it.stream().cancel(), [1, 1]],
@@ -273,7 +274,7 @@ test("a VerifiedBlob asks for no more than it needs, and for one thing at a time
     for (const [what, read, kept, anew = kept] of table) {
         for (const [options, [fetches, mib, proofs = fetches]] of [[{}, kept], [{ cacheSize: 0 }, anew]]) {
             const [blob, asked] = await asking(options);
-            await read(blob);
+            await read(blob, asked);
             assert.deepEqual(asked, { proofs, fetches, mib, most: 1 }, `${what}, ${JSON.stringify(options)}`);
         }
     }
