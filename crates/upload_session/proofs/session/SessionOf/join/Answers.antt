@@ -1,4 +1,4 @@
-use Rattle.std.proofs.Common.{◌++◌, refl, sym, subst, ap, ◌∙◌}
+use Rattle.std.proofs.Common.{rules, ◌++◌, refl, sym, subst, ap, ◌∙◌}
 use Rattle.std.proofs.lemmas.List.Folds.{list_any-append}
 use Rattle.upload_session.specs.Hashes.{hash_eq, AreBoth}
 use Rattle.upload_session.specs.Session.{StandForBoth}
@@ -26,3 +26,9 @@ returns-in-Ok-clause-placed g c =
     let kind = g.C.ChunkRange in
     subst (λ session. StandForBoth kind session.runs c.args.other.now.runs c.join.new.self) c.self.view_is
     (subst (λ session. StandForBoth kind c.self.inside.runs session.runs c.join.new.self) c.other.view_is c.in-Ok.ensures.placed)
+
+pub returns-in-Ok-clause-size : goal.returns-in-Ok-clause-size
+returns-in-Ok-clause-size g c = search rules
+
+pub invariant_of-self-in-Ok : goal.invariant_of-self-in-Ok
+invariant_of-self-in-Ok g c = search rules
