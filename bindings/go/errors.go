@@ -65,8 +65,8 @@ type Error struct {
 	Status Status
 	// Rule is the number of the lowest rule that a text, bytes or lists break. It is 0 for any other failure.
 	Rule int
-	// Position is, with ErrSessionOverlap, the first position that is taken. With ErrSessionGap it is the first position below the total that
-	// isn't taken, or else the first one from the total on that is.
+	// Position is, with ErrSessionOverlap, the first position that is taken, or taken in both sessions. With ErrSessionGap it is the first
+	// position below the total that isn't taken, or else the first one from the total on that is.
 	Position uint64
 	// Chunk and Place are, with ErrMismatch of an OpenedRange, the number of the first chunk whose data is wrong, and where in the file it
 	// begins. Chunk is -1 if no single chunk is wrong, as with every other failure.

@@ -17,6 +17,11 @@ func TestErrorsNameWhatIsWrong(t *testing.T) {
 	open, closed := must(NewSubtree(false, list, false)), must(NewSubtree(false, list, false))
 	closed.Close()
 	whole := must(NewSubtree(true, list, true))
+	heavy, other, more := must(NewSubtree(false, huge[:1], false)), sessionOf(0), new(Session)
+	for _, first := range []uint64{0, 5, 8, 12} {
+		must(other.Put(first, some(2)))
+	}
+	must(more.Put(20, huge[:1]))
 	session, light, tree, index := sessionOf(2), must(NewSessionWithoutHashes()), must(NewHashTree(list)), must(NewHashIndex())
 	must(session.Put(9, []Chunk{{Hash{}, 1 << 63}}))
 	proof := must(tree.Proof(1, 3))
@@ -63,6 +68,18 @@ func TestErrorsNameWhatIsWrong(t *testing.T) {
 		{session.PushRun(Positions{30, 30}, open), ErrArguments, "must be more than its first position 30, got 30"},
 		{session.PushRun(Positions{30, 31}, whole), ErrArguments, "must be open, got one marked at its start: true, at its end: true"},
 		{session.PushRun(Positions{10, 11}, open), ErrArguments, "position 9 or one after it is taken"},
+		{session.PutRange(0, 7, open), ErrSessionOverlap, "position 3 is taken"},
+		{session.PutRange(4, 1, heavy), ErrSessionOverlap, "position 4 is taken"},
+		{session.PutRange(1<<64-1, 2, open), ErrSessionPositions, "the first position 18446744073709551615 plus 2 chunks"},
+		{session.PutRange(20, 1<<64-1, heavy), ErrSessionPositions, "the first position 20 plus 18446744073709551615 chunks"},
+		{session.PutRange(20, 1, heavy), ErrSizes, "the session's chunks and of 1 more add up"},
+		{session.PutRange(3, 0, open), ErrArguments, "a range must have a chunk, got one of 0 chunks from position 3 on"},
+		{session.PutRange(3, 4, whole), ErrArguments, "the subtree of a range must be open, got one marked at its start: true, at its end: true"},
+		{session.PutRange(20, 4, closed), ErrEmptyHandle, "the object is empty"},
+		{second(session.Join(session)), ErrSessionOverlap, "position 3 is taken in both"},
+		{second(session.Join(other)), ErrSessionOverlap, "position 9 is taken in both"},
+		{second(other.Join(session)), ErrSessionOverlap, "position 9 is taken in both"},
+		{second(session.Join(more)), ErrSizes, "the sizes of the chunks of both sessions add up to more than 2^64 - 1"},
 		{light.KeepHashes([]Hash{{}}), ErrArguments, "the session keeps no hashes, got 1"},
 		{new(Session).UnmarshalJSON([]byte("7")), SessionRule + 1, "invalid session: rule 1: "},
 		{third(tree.ChunksAt(99, 100)), ErrArguments, "the file has no bytes from 99 up to 100"},
@@ -98,6 +115,8 @@ func TestErrorsHaveNumbers(t *testing.T) {
 	opened := must(must(tree.Proof(1, 3)).OpenRoot(must(tree.Root())))
 	for _, test := range []struct{ err, wanted error }{
 		{second(session.Put(0, some(7))), &Error{Status: ErrSessionOverlap, Position: 3, Chunk: -1}},
+		{session.PutRange(0, 7, must(NewSubtree(false, some(7), false))), &Error{Status: ErrSessionOverlap, Position: 3, Chunk: -1}},
+		{second(session.Join(session)), &Error{Status: ErrSessionOverlap, Position: 3, Chunk: -1}},
 		{second(session.Root(4)), &Error{Status: ErrSessionGap, Chunk: -1}},
 		{second(session.Clone()), nil},
 		{second(opened.Check(1, nil)), &Error{Status: ErrMismatch, Chunk: 1, Place: 18}},

@@ -194,6 +194,12 @@ var kinds = map[string]kind{
 				defer subtree.Close()
 				return nil, it.PushRun(Positions{300, 302}, subtree)
 			},
+			"PutRange": func(it, other *Session) (any, error) {
+				subtree := must(NewSubtree(false, some(2), false))
+				defer subtree.Close()
+				return nil, it.PutRange(250, 2, subtree)
+			},
+			"Join":        func(it, other *Session) (any, error) { return it.Join(other) },
 			"Knows":       func(it, _ *Session) (any, error) { return it.Knows(some(1)[0].Hash) },
 			"KnowsEach":   func(it, _ *Session) (any, error) { return it.KnowsEach(beside(some(1)[0].Hash, Hash{})) },
 			"KeepHashes":  func(it, _ *Session) (any, error) { return nil, it.KeepHashes(beside(Hash{5})) },
@@ -405,7 +411,7 @@ func closeAll(result any) {
 }
 
 // The calls that read the object which is their argument.
-var takesTwo = map[string]bool{"MergeInto": true, "MergeIntoCounted": true, "Equal": true, "Diff": true, "MergeSubtrees": true}
+var takesTwo = map[string]bool{"MergeInto": true, "MergeIntoCounted": true, "Equal": true, "Diff": true, "MergeSubtrees": true, "Join": true}
 
 // Whether a method makes a whole object, also of a closed one.
 func makesWhole(name string) bool {
@@ -511,6 +517,10 @@ func TestANilPointerIsAnError(t *testing.T) {
 		"Equal":            second(open.Equal(nil)),
 		"Diff":             second(tree.Diff(nil)),
 		"PushRun":          new(Session).PushRun(Positions{0, 1}, nil),
+		"PutRange":         new(Session).PutRange(0, 1, nil),
+		"Join":             second(new(Session).Join(nil)),
+		"nil.PutRange":     (*Session)(nil).PutRange(0, 1, open),
+		"nil.Join":         second((*Session)(nil).Join(nil)),
 		"nil.FinalHash":    second((*Subtree)(nil).FinalHash()),
 		"nil.Root":         second((*HashTree)(nil).Root()),
 		"nil.Session.Root": second((*Session)(nil).Root(0)),

@@ -73,25 +73,106 @@ func readSession(text []byte, keepHashes bool, to *C.yurewha_session) error {
 func (s *Session) Put(first uint64, chunks []Chunk) (fresh uint64, err error) {
 	err = s.with(func(session *C.yurewha_session) error {
 		status := C.yurewha_session_put(session, C.uint64_t(first), chunksPointer(chunks), C.size_t(len(chunks)), (*C.uint64_t)(&fresh))
+		return checkPut(status, session, first, uint64(len(chunks)))
+	})
+	return
+}
+
+// PutRange puts a range of count chunks at the positions from first on, as Put puts chunks. The session gets a copy of their subtree, and doesn't
+// know their hashes. That the subtree is of so many chunks can't be seen. It returns ErrArguments if count is 0 or the subtree is marked at an
+// end, and otherwise errors as Put does.
+func (s *Session) PutRange(first, count uint64, subtree *Subtree) error {
+	held, err := s.handle()
+	if err != nil {
+		return err
+	}
+	return withBoth(held, subtree.handle(), func(session *C.yurewha_session, it *C.yurewha_subtree) error {
+		status := C.yurewha_session_put_range(session, C.uint64_t(first), C.uint64_t(count), it)
+		if status != C.YUREWHA_ARGUMENTS {
+			return checkPut(status, session, first, count)
+		}
+		if err := checkOpen(status, it, "range"); err != nil {
+			return err
+		}
+		return refused(status, "a range must have a chunk, got one of %d chunks from position %d on", count, first)
+	})
+}
+
+// Join puts copies of all runs of another session at their positions, and keeps the hashes that it knows, unless this one keeps none. It
+// returns how many of these hashes this session didn't know. Of many sessions that have no position in common any two can be joined first, and
+// the last one stands for the chunks of all. The other session stays as it was. It returns ErrSessionOverlap if a position is taken in both, and
+// otherwise ErrSizes if the sizes of all chunks add up to more than 2^64 - 1.
+func (s *Session) Join(other *Session) (fresh uint64, err error) {
+	held, err := s.handle()
+	if err != nil {
+		return 0, err
+	}
+	added, err := other.handle()
+	if err != nil {
+		return 0, err
+	}
+	if held.owned == added.owned {
+		// The call needs two different handles.
+		copied, err := other.Clone()
+		if err != nil {
+			return 0, err
+		}
+		defer copied.Close()
+		added = copied.held
+	}
+	err = withBoth(held, added, func(session, it *C.yurewha_session) error {
+		status := C.yurewha_session_join(session, it, (*C.uint64_t)(&fresh))
 		switch status {
 		case C.YUREWHA_SESSION_OVERLAP:
-			return overlap(session, first)
-		case C.YUREWHA_SESSION_POSITIONS:
-			return refused(status, "the first position %d plus %d chunks is more than 2^64 - 1", first, len(chunks))
+			return overlap("position %d is taken in both", takenInBoth(session, it))
 		case C.YUREWHA_SIZES:
-			return refused(status, "the sizes of the session's chunks and of %d more add up to more than 2^64 - 1", len(chunks))
+			return refused(status, "the sizes of the chunks of both sessions add up to more than 2^64 - 1")
 		}
 		return check(status)
 	})
 	return
 }
 
-// Returns the error that names the first position that is taken, from one on.
-func overlap(session *C.yurewha_session, first uint64) error {
-	position := nextTaken(session, first)
-	made := refused(C.YUREWHA_SESSION_OVERLAP, "position %d is taken", position)
+// Returns the error of a put of so many chunks at the positions from one on, or nil.
+func checkPut(status C.yurewha_status, session *C.yurewha_session, first, count uint64) error {
+	switch status {
+	case C.YUREWHA_SESSION_OVERLAP:
+		return overlap("position %d is taken", nextTaken(session, first))
+	case C.YUREWHA_SESSION_POSITIONS:
+		return refused(status, "the first position %d plus %d chunks is more than 2^64 - 1", first, count)
+	case C.YUREWHA_SIZES:
+		return refused(status, "the sizes of the session's chunks and of %d more add up to more than 2^64 - 1", count)
+	}
+	return check(status)
+}
+
+// Returns the error that names a position that is taken.
+func overlap(format string, position uint64) error {
+	made := refused(C.YUREWHA_SESSION_OVERLAP, format, position)
 	made.Position = position
 	return made
+}
+
+// Returns the error of a subtree that is marked, and nil of an open one.
+func checkOpen(status C.yurewha_status, it *C.yurewha_subtree, what string) error {
+	var atStart, atEnd C.bool
+	_ = C.yurewha_subtree_marks(it, &atStart, &atEnd)
+	if bool(atStart) || bool(atEnd) {
+		return refused(status, "the subtree of a %s must be open, got one marked at its start: %v, at its end: %v", what, atStart, atEnd)
+	}
+	return nil
+}
+
+// Returns the first position that is taken in both sessions. There has to be one.
+func takenInBoth(one, other *C.yurewha_session) uint64 {
+	position := nextTaken(one, 0)
+	for {
+		theirs := nextTaken(other, position)
+		if theirs == position {
+			return position
+		}
+		position = nextTaken(one, theirs)
+	}
 }
 
 // Returns the first position that is taken, from one on. There has to be one.
@@ -263,13 +344,11 @@ func (s *Session) PushRun(positions Positions, subtree *Subtree) error {
 		if status != C.YUREWHA_ARGUMENTS {
 			return check(status)
 		}
-		var atStart, atEnd C.bool
-		_ = C.yurewha_subtree_marks(it, &atStart, &atEnd)
-		switch {
-		case end <= first:
+		if end <= first {
 			return refused(status, "the end of a run must be more than its first position %d, got %d", first, end)
-		case bool(atStart) || bool(atEnd):
-			return refused(status, "the subtree of a run must be open, got one marked at its start: %v, at its end: %v", atStart, atEnd)
+		}
+		if err := checkOpen(status, it, "run"); err != nil {
+			return err
 		}
 		return refused(status, "position %d or one after it is taken", first-1)
 	})

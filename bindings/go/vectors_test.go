@@ -113,6 +113,10 @@ var calls = map[string]func(a arguments) (any, error){
 	"session_finish":           func(a arguments) (any, error) { return of[*Session](a, 0).Finish(a.number(1)) },
 	"session_finish_with_salt": func(a arguments) (any, error) { return of[*Session](a, 0).FinishWithSalt(a.number(1), a.bytes(2)) },
 	"session_copy":             func(a arguments) (any, error) { return of[*Session](a, 0).Clone() },
+	"session_put_range": func(a arguments) (any, error) {
+		return nil, of[*Session](a, 0).PutRange(a.number(1), a.number(2), of[*Subtree](a, 3))
+	},
+	"session_join": func(a arguments) (any, error) { return of[*Session](a, 0).Join(of[*Session](a, 1)) },
 	"session_push_run": func(a arguments) (any, error) {
 		return nil, of[*Session](a, 0).PushRun(Positions{a.number(1), a.number(2)}, of[*Subtree](a, 3))
 	},

@@ -7,6 +7,7 @@ import (
 	"io"
 	"math/rand"
 	"runtime"
+	"sort"
 	"strings"
 	"sync"
 	"testing"
@@ -144,6 +145,61 @@ func TestASessionTakesChunksInAnyOrder(t *testing.T) {
 	must(light.Put(0, list))
 	expect(t, must(session.Put(3, list)), uint64(0))
 	expect(t, must(light.Put(3, list)), uint64(3))
+}
+
+// Many goroutines hash the parts of a file. Their ranges and sessions come in any order.
+func TestPartsAreJoinedInAnyOrder(t *testing.T) {
+	draws := rand.New(rand.NewSource(67))
+	for round := 0; round < 100; round++ {
+		list, whole, sessions := some(draws.Intn(60)), must(NewSession()), []*Session{must(NewSession())}
+		total, places := uint64(len(list)), []int{0, len(list)}
+		for more := draws.Intn(6); more > 0; more-- {
+			places = append(places, draws.Intn(len(list)+1))
+		}
+		sort.Ints(places)
+		for _, i := range draws.Perm(len(places) - 1) {
+			first, part := uint64(places[i]), list[places[i]:places[i+1]]
+			if len(part) == 0 {
+				continue
+			}
+			subtree, count, session := must(NewSubtree(false, part, false)), uint64(len(part)), must(NewSession())
+			expect(t, whole.PutRange(first, count, subtree), nil)
+			// A part that comes again is refused.
+			expect(t, whole.PutRange(first, count, subtree).(*Error).Position, first)
+			if draws.Intn(2) == 0 {
+				must(session.Put(first, part))
+			} else {
+				expect(t, session.PutRange(first, count, subtree), nil)
+			}
+			sessions = append(sessions, session)
+		}
+		expect(t, must(whole.Finish(total)), must(FileHash(list)))
+		expect(t, len(must(whole.KnownHashes())), 0)
+		for len(sessions) > 1 {
+			last := len(sessions) - 1
+			draws.Shuffle(len(sessions), func(i, j int) { sessions[i], sessions[j] = sessions[j], sessions[i] })
+			one, other := sessions[0], sessions[last]
+			known, theirs := len(must(one.KnownHashes())), state(other)
+			fresh := must(one.Join(other))
+			expect(t, fresh, uint64(len(must(one.KnownHashes()))-known))
+			expect(t, state(other), theirs)
+			if must(other.NumRuns()) > 0 {
+				before := state(one)
+				_, err := one.Join(other)
+				expectError(t, err, ErrSessionOverlap)
+				expect(t, state(one), before)
+			}
+			sessions = sessions[:last]
+		}
+		expect(t, must(sessions[0].Finish(total)), must(FileHash(list)))
+	}
+	session, light := sessionOf(3), must(NewSessionWithoutHashes())
+	expect(t, must(light.Join(session)), uint64(3))
+	expect(t, must(light.KeepsHashes()), false)
+	expect(t, must(new(Session).Join(light)), uint64(0))
+	for _, empty := range []*Session{new(Session), must(NewSession())} {
+		expect(t, must(empty.Join(empty)), uint64(0))
+	}
 }
 
 // The last position is 2^64 - 2, and a run that has it ends at 2^64 - 1.

@@ -780,8 +780,10 @@ yurewha_status yurewha_session_run_from(yurewha_session *session, uint64_t posit
 YUREWHA_NONNULL(1) YUREWHA_INITIALIZED(1) YUREWHA_SINCE(1.1)
 void yurewha_session_free(yurewha_session *session);
 
-/* ---- Joining what many machines hashed. Each sends the range of its chunks, or its session, in whatever order; the hash of the
- * file is the same. A part that was sent twice is refused, and changes nothing. */
+/* ---- Joining what many machines hashed: ranges of chunks, and sessions */
+
+/* Each machine sends the range of its chunks, or its session, in whatever order; the hash of the file is the same. A part that
+ * was sent twice is refused, and changes nothing. */
 
 /* Puts a range of `count` chunks at the positions from `first` on, as yurewha_session_put puts chunks. The session gets a
  * copy of `range`, the subtree of these chunks, which is unchanged. It doesn't know their hashes before they are kept or

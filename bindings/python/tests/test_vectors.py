@@ -89,6 +89,8 @@ CALLS = {
     "session_finish": y.Session.finish,
     "session_finish_with_salt": y.Session.finish,
     "session_copy": y.Session.copy,
+    "session_put_range": y.Session.put_range,
+    "session_join": y.Session.join,
     "session_push_run": y.Session.push_run,
     "session_keep_hashes": y.Session.keep_hashes,
     "session_num_known_hashes": lambda session: len(session.known_hashes()),
@@ -151,7 +153,7 @@ ERRORS = {
 #: Where the package has another error than ERRORS says, or returns None.
 OTHERWISE = {
     ("subtree_from_flat", "RULE"): y.InvalidLists,
-    ("session_put", "SIZES"): y.SessionSizes,
+    ("session_put", "SIZES"): y.SessionSizes, ("session_put_range", "SIZES"): y.SessionSizes, ("session_join", "SIZES"): y.SessionSizes,
     ("opened_range_check", "MISMATCH"): (y.ProofMismatch, y.InvalidArguments),  # that there is no such chunk is of its own class
     ("find_stable_start", "ARGUMENTS"): None,
     ("find_stable_end", "ARGUMENTS"): None,

@@ -107,8 +107,7 @@ DECLARATIONS: Dict[str, Declaration] = {
     "yurewha_session_run_from": (
         "yurewha_status", ("yurewha_session *", "uint64_t", "uint64_t *", "uint64_t *", "yurewha_subtree *")),
     "yurewha_session_free": ("void", ("yurewha_session *",)),
-    # Joining what many machines hashed. Each sends the range of its chunks, or its session, in whatever order; the hash of the
-
+    # Joining what many machines hashed
     "yurewha_session_put_range": (
         "yurewha_status", ("yurewha_session *", "uint64_t", "uint64_t", "yurewha_subtree *")),
     "yurewha_session_join": ("yurewha_status", ("yurewha_session *", "yurewha_session *", "uint64_t *")),

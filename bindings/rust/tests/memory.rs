@@ -435,10 +435,55 @@ fn sessions_are_refused() {
     let hashes: Vec<_> = nodes.iter().map(|node| node.0).collect();
     refuse_each(|| restored.keep_hashes(&hashes));
     assert_eq!(restored.known_hashes().unwrap().len(), 60);
+    ranges_and_joins_are_refused(&nodes, &apart);
     assert_each_refusal(SessionFault::OutOfMemory, || session.root(60));
     assert_each_refusal(SessionFault::OutOfMemory, || session.finish(60));
     assert_each_refusal(SessionFault::OutOfMemory, || session.finish_with_salt(60, &[7; 32]));
     assert_eq!(session.finish(60), Ok(file_hash(&nodes)));
+}
+
+// That a refused call leaves a session as it was. The other session has the chunks from 20 to 29, and from 50 on.
+fn ranges_and_joins_are_refused(nodes: &[Node], other: &Session) {
+    let range = MerkleHashSubtree::from_chunks(false, &nodes[..20], false);
+    let mut session = Session::new();
+    session.put(30, &nodes[30..50]).unwrap();
+    let state = |it: &Session| (it.num_runs(), it.total_size(), it.known_hashes());
+    let (before, kept) = (state(&session), state(other));
+    for requests in 0.. {
+        let (answer, refused) = with_refusal(requests, || session.join(other));
+        assert_eq!(
+            answer,
+            if refused {
+                Err(SessionFault::OutOfMemory)
+            } else {
+                Ok(20)
+            }
+        );
+        assert_eq!(state(other), kept);
+        if !refused {
+            assert!(requests > 0, "no request was made");
+            break;
+        }
+        assert_eq!(state(&session), before);
+    }
+    assert_eq!((session.num_runs(), session.total_size()), (1, 40));
+    for requests in 0.. {
+        let (answer, refused) = with_refusal(requests, || session.put_range(0, 20, &range));
+        assert_eq!(
+            answer,
+            if refused {
+                Err(SessionFault::OutOfMemory)
+            } else {
+                Ok(())
+            }
+        );
+        assert_eq!(session.taken(0), !refused);
+        if !refused {
+            assert!(requests > 0, "no request was made");
+            break;
+        }
+    }
+    assert_eq!(session.finish(60), Ok(file_hash(nodes)));
 }
 
 // That a refused call adds no hash, and that the same call adds all of them later.

@@ -99,6 +99,14 @@ fn session_call(name: &str, a: &Arguments) -> Answer {
     let session = a.of::<Session>(0);
     match name {
         "session_put" => return is(session.borrow_mut().put(a.number(1), &a.chunks(2))?),
+        "session_put_range" => {
+            let range = a.of::<MerkleHashSubtree>(3).borrow();
+            return nothing(session.borrow_mut().put_range(a.number(1), a.number(2), &range)?);
+        }
+        "session_join" => {
+            let other = a.of::<Session>(1).borrow();
+            return is(session.borrow_mut().join(&other)?);
+        }
         "session_push_run" => {
             let range = a.of::<MerkleHashSubtree>(3).borrow();
             return nothing(session.borrow_mut().push_run(a.number(1)..a.number(2), &range)?);
@@ -410,6 +418,7 @@ impl From<CoreError> for Refused {
 impl From<SessionFault> for Refused {
     fn from(fault: SessionFault) -> Self {
         match fault {
+            SessionFault::InvalidArguments => Refused("ARGUMENTS", None),
             SessionFault::Overlap => Refused("SESSION_OVERLAP", None),
             SessionFault::Positions => Refused("SESSION_POSITIONS", None),
             SessionFault::Sizes => Refused("SIZES", None),

@@ -210,6 +210,8 @@ test("an object of another instance is none of this one", async () => {
     assert.throws(() => here.mergeInto(there), TypeError);
     assert.throws(() => here.equals(there), TypeError);
     assert.throws(() => y.Subtree.merge([here, there]), TypeError);
+    assert.throws(() => new y.Session().putRange(0, 1, there), TypeError);
+    assert.throws(() => new y.Session().join(new other.Session()), TypeError);
     for (const [value, got] of [[null, "null"], [undefined, "undefined"], [1, "1"], [{}, "an object"], [[], "an array"]]) {
         assert.throws(() => here.mergeInto(value), new TypeError(`a range must be a Subtree of the same module, got ${got}`));
         assert.throws(() => new y.Hash().equals(value), new TypeError(`the hash must be a Hash of the same module, got ${got}`));
@@ -853,6 +855,95 @@ test("a run that doesn't fit is refused", () => {
     assert.throws(() => session.pushRun(9, "10", great), TypeError);
     assert.throws(() => session.keepHashes([new y.Hash(), "00"]), new TypeError('hash 1 must be a Hash of the same module, got "00"'));
     assert.deepEqual([session.numRuns, session.knownHashes()], [1, []]);
+});
+
+test("a range is put at any position, and refused where it doesn't fit", () => {
+    const chunks = list(6);
+    const open = (from, to) => y.Subtree.fromChunks(false, chunks.slice(from, to), false);
+    const session = new y.Session();
+    session.put(5, chunks.slice(5));
+    session.putRange(0, 2n, open(0, 2));
+    assert.deepEqual([session.numChunks, session.numRuns, session.taken(1), session.taken(2), session.knows(chunks[0][0])], [3n, 2, true, false, false]);
+    const [before, great] = [session.jsonText(), y.Subtree.fromChunks(false, [[new y.Hash(), MAX]], false)];
+    const marked = (atStart, atEnd) => y.Subtree.fromChunks(atStart, chunks.slice(0, 1), atEnd);
+    const unfit = (count, first) =>
+        new errors.InvalidArguments(`a range must have a chunk, and no mark at an end, got one of ${count} chunks from position ${first} on`);
+    for (const [first, count, range, error] of [
+        [2, 0, open(2, 5), unfit(0, 2)], [2, 3, marked(true, false), unfit(3, 2)], [0, 3, marked(false, true), unfit(3, 0)],
+        [0, 1, open(0, 1), new errors.SessionOverlap("position 0 is taken")], [1, 2, open(2, 4), new errors.SessionOverlap("position 1 is taken")],
+        [2, 4, great, new errors.SessionOverlap("position 5 is taken")], [1n, MAX, open(0, 1), new errors.SessionOverlap("position 1 is taken")],
+        [MAX, 1, great, errors.SessionPositions], [9, MAX, open(0, 1), errors.SessionPositions], [2, 3, great, errors.SessionSizes],
+        [2, 3, session, TypeError], [2, "3", great, TypeError], [-1, 3, great, RangeError], [2, 2n ** 64n, great, RangeError],
+    ]) {
+        assert.throws(() => session.putRange(first, count, range), error);
+        assert.equal(session.jsonText(), before);
+    }
+    session.putRange(2, 3, open(2, 5));
+    assert.ok(session.finish(6).equals(y.fileHash(chunks)));
+});
+
+test("sessions are joined, unless a position is taken in both", () => {
+    const chunks = list(9);
+    const sessionOf = (...runs) => {
+        const made = new y.Session();
+        for (const [first, end] of runs) made.put(first, chunks.slice(first, end));
+        return made;
+    };
+    const session = sessionOf([0, 1], [3, 5], [7, 8]);
+    const great = new y.Session();
+    great.put(20, [[new y.Hash(), MAX]]);
+    const refusals = [
+        [session, new errors.SessionOverlap("position 0 is taken in both")], [session.clone(), new errors.SessionOverlap("position 0 is taken in both")],
+        [sessionOf([1, 3], [5, 9]), new errors.SessionOverlap("position 7 is taken in both")], [sessionOf([2, 9]), new errors.SessionOverlap("position 3 is taken in both")],
+        [great, new errors.SessionSizes("the sizes of all chunks add up to more than 2^64 - 1")],
+    ];
+    const wrong = (what) => new TypeError(`the other must be a Session of the same module, got ${what}`);
+    for (const [other, what] of [[null, "null"], [7, "7"], [undefined, "undefined"]]) refusals.push([other, wrong(what)]);
+    for (const other of [{}, chunks, session.run(0)[2], session.saved]) refusals.push([other, TypeError]);
+    const before = session.jsonText();
+    for (const [other, error] of refusals) {
+        const untouched = other instanceof y.Session ? other.jsonText() : null;
+        assert.throws(() => session.join(other), error);
+        assert.deepEqual([session.jsonText(), other instanceof y.Session ? other.jsonText() : null], [before, untouched]);
+    }
+    session.put(20, chunks.slice(1, 2));
+    const others = sessionOf([1, 3], [5, 7], [8, 9]);
+    assert.deepEqual([session.join(others), session.numRuns, others.numRuns], [4, 2, 3]);
+    const [light, none] = [new y.Session({ keepHashes: false }), new y.Session()];
+    assert.deepEqual([light.join(others), light.keepsHashes, light.knownHashes(), light.join(none), none.join(light)], [5, false, [], 0, 0]);
+    assert.deepEqual([none.numChunks, none.knownHashes(), new y.Session().join(new y.Session())], [5n, [], 0]);
+    const empty = new y.Session();
+    assert.equal(empty.join(empty), 0);
+});
+
+test("drawn parts give the file hash of the whole, as ranges and as sessions that are joined in a drawn tree", () => {
+    let drawn = 5n;
+    const below = (bound) => Number(((drawn = (drawn * 6364136223846793005n + 1442695040888963407n) % 2n ** 64n) >> 33n) % BigInt(bound));
+    for (let round = 0; round < 100; round++) {
+        const chunks = list(below(80));
+        const places = [0, chunks.length, ...Array.from({ length: below(6) }, () => below(chunks.length + 1))].sort((one, other) => one - other);
+        const parts = places.slice(1).map((end, k) => [places[k], chunks.slice(places[k], end)]).filter(([, part]) => part.length > 0);
+        const [whole, sessions] = [new y.Session(), [new y.Session()]];
+        while (parts.length > 0) {
+            const [[first, part]] = parts.splice(below(parts.length), 1);
+            const range = y.Subtree.fromChunks(false, part, false);
+            whole.putRange(first, part.length, range);
+            assert.throws(() => whole.putRange(first, part.length, range), new errors.SessionOverlap(`position ${first} is taken`));
+            const session = new y.Session();
+            if (below(2)) session.put(first, part);
+            else session.putRange(first, part.length, range);
+            sessions.push(session);
+        }
+        while (sessions.length > 1) {
+            const [other] = sessions.splice(below(sessions.length), 1);
+            const one = sessions[below(sessions.length)];
+            const known = other.knownHashes().filter((hash) => !one.knows(hash)).length;
+            assert.equal(one.join(other), known);
+            if (other.numRuns > 0) assert.throws(() => one.join(other), errors.SessionOverlap);
+        }
+        for (const it of [whole, ...sessions]) assert.ok(it.finish(chunks.length).equals(y.fileHash(chunks)));
+        assert.deepEqual(whole.knownHashes(), []);
+    }
 });
 
 test("load takes an address, bytes, a compiled module and a response", async () => {

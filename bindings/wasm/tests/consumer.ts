@@ -131,6 +131,9 @@ const gaps: [bigint, bigint][] = session.gaps(5);
 const saved: Run | null = session.runFrom(0) ?? session.run(0);
 const restored: Session = new y.Session();
 if (saved !== null) restored.pushRun(...saved);
+const parts: Session = new y.Session({ keepHashes: false });
+const joined: number = parts.join(session);
+parts.putRange(joined + 7, 1n, run);
 restored.keepHashes(session.knownHashes());
 const form: SavedSession = restored.saved;
 const sessionText: string = restored.jsonText();
@@ -449,6 +452,14 @@ export async function refused(): Promise<void> {
     session.pushRun(...session.runFrom(0));
     // @ts-expect-error chunks aren't a range
     session.pushRun(0, 1, chunks);
+    // @ts-expect-error a range is of so many chunks
+    session.putRange(0, run);
+    // @ts-expect-error chunks aren't a range
+    session.putRange(0, 1, chunks);
+    // @ts-expect-error a range is no session
+    session.join(run);
+    // @ts-expect-error what is saved is no session
+    session.join(session.saved);
     // @ts-expect-error positions are BigInts
     const holes: number[][] = session.gaps(7);
     // @ts-expect-error a session is no list

@@ -124,6 +124,11 @@ test("every block goes back", async () => {
     for (const text of [front.jsonText(), session.jsonText().replace('"end":100', '"end":0')]) assert.throws(() => y.Session.fromJSON(text));
     for (const total of [99, 101]) assert.throws(() => session.root(total), SessionGap);
     assert.throws(() => session.put(7, chunks), SessionOverlap);
+    assert.throws(() => session.putRange(7, 9, run), SessionOverlap);
+    for (const other of [session, y.Session.restore(session.saved)]) {
+        assert.throws(() => session.join(other), SessionOverlap);
+        if (other !== session) other.free();
+    }
     session.run(0)[2].free();
     session.gaps(200);
     session.finish(100, new Uint8Array(32));

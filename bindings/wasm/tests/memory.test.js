@@ -27,6 +27,9 @@ function scene(y) {
     const base64 = hash.base64();
     const restored = new y.Session();
     const middle = y.Subtree.fromChunks(false, chunks.slice(100, 200), false);
+    const [added, keeping] = [new y.Session(), new y.Session()];
+    const [[one]] = chunks;
+    added.put(600, chunks.slice(0, 50));
     const { saved } = session;
     const sessionText = session.jsonText();
     const tree = y.HashTree.fromChunks(chunks);
@@ -35,13 +38,14 @@ function scene(y) {
     const told = (opened) => [opened.begins(0), opened.ends(99), opened.fileSize];
     const others = Array.from({ length: COUNT }, (_, k) => y.Hash.randomFromSeed(1000 + k));
     const numbers = others.map((_, k) => k);
+    keeping.keepHashes(others);
     const index = new y.HashIndex();
     index.insert(others.slice(0, 100), numbers.slice(0, 100));
     const { saved: savedIndex } = index;
     const hasher = new y.FileHasher().update(new Uint8Array(1000));
     const shorter = y.HashTree.fromChunks(chunks.slice(0, 200));
     const state = () => [
-        plain(front), plain(back), session.numRuns, restored.numRuns, hasher.size, index.size, index.find(others.slice(90, 110)), [0, 99, 100, 199, 200, 299, 300].map((position) => session.taken(position)), hash.hex(),
+        plain(front), plain(back), session.numRuns, restored.numRuns, restored.knows(one), added.numRuns, hasher.size, index.size, index.find(others.slice(90, 110)), [0, 99, 100, 199, 200, 299, 300].map((position) => session.taken(position)), hash.hex(),
     ];
     const calls = {
         base64: () => hash.base64(),
@@ -87,6 +91,9 @@ function scene(y) {
         // These change an object, so they come last.
         "update of a hasher": () => [hasher.update(MUCH).size, hasher.root().hex()],
         pushRun: () => [restored.pushRun(400, 500, middle), restored.numRuns],
+        putRange: () => [restored.putRange(200, 100, middle), restored.numRuns],
+        join: () => [restored.join(added), restored.numRuns],
+        "join with itself": () => [keeping.join(keeping), keeping.knownHashes().length],
         "insert into an index": () => [index.insert(others, numbers), index.size],
         keepHashes: () => [restored.keepHashes(others), restored.knownHashes().length],
         put: () => [session.put(100, chunks.slice(100, 200)), session.numRuns],

@@ -188,6 +188,15 @@ export function tableOf(y) {
                         range.free();
                     }
                 },
+                putRange: (it, other) => {
+                    const range = y.Subtree.fromChunks(false, chunks(Number(other.numChunks)), false);
+                    try {
+                        it.putRange(15, 3, range);
+                    } finally {
+                        range.free();
+                    }
+                },
+                join: (it, other) => it.join(other),
                 keepHashes: (it, other) => it.keepHashes(other.knownHashes()),
                 keepsHashes: (it) => it.keepsHashes,
                 knows: (it) => it.knows(hashes(1)[0]),

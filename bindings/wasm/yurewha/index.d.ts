@@ -623,6 +623,26 @@ export interface Session extends Freed {
      */
     put(first: U64, chunks: ChunkList): number;
 
+    /**
+     * Puts a range of `count` chunks at the positions from `first` on, as `put` puts chunks. The session gets a copy of `range`, the
+     * subtree of these chunks. It doesn't know their hashes before they are kept or put. The call can't check that `range` is of so
+     * many chunks. If it isn't, the root and the file hash are those of the chunks of the subtrees, and all else goes by the positions.
+     * @throws InvalidArguments `count` is 0, or the range is marked at an end
+     * @throws SessionOverlap otherwise, one of the positions is taken
+     * @throws SessionPositions otherwise, `first` plus `count` is more than 2^64 - 1
+     * @throws SessionSizes otherwise, the sizes of all chunks add up to more than 2^64 - 1
+     */
+    putRange(first: U64, count: U64, range: Subtree): void;
+
+    /**
+     * Puts copies of all runs of another session at their positions, and keeps the hashes that it knows, unless this one keeps none.
+     * Returns how many of these hashes this session didn't know. Of many sessions that have no position in common any two can be
+     * joined first, and the last one stands for the chunks of all. The other one is unchanged.
+     * @throws SessionOverlap a position is taken in both
+     * @throws SessionSizes otherwise, the sizes of all chunks add up to more than 2^64 - 1
+     */
+    join(other: Session): number;
+
     /** Returns whether a position is taken. */
     taken(position: U64): boolean;
 

@@ -12,6 +12,8 @@ const KEEPS_NONE = "this session keeps no hashes";
 const STRICT = "be JSON in which no object has a member twice";
 const unfit = (first, end) =>
     `a run must have a position, no mark at an end, and a gap after the runs before it, got that from ${first} up to ${end}`;
+const noRange = (first, count) =>
+    `a range must have a chunk, and no mark at an end, got one of ${count} chunks from position ${first} on`;
 const noHash = (first, end) =>
     end - first === 1n ? `position ${first} has no chunk` : `the positions from ${first} to ${end - 1n} have no chunk`;
 
@@ -39,6 +41,12 @@ function listsOf(saved) {
 /** The class `Session` over a library. */
 export function makeSession(library, { Hash, rawOf, result, packedHashes, unpacked }, { packedOf }, { Subtree, owned, pointerOf }) {
     const handles = new Handles(library, "yurewha_session_free");
+
+    /** Throws the error of a put or of a join, unless the status is 0. */
+    const check = (status, what) => {
+        if (status === STATUS.SIZES) throw sessionSizes();
+        library.check(status, what);
+    };
 
     // A caller's iterators and getters may free the session. So each call takes the pointer after the last of them has run.
     class Session {
@@ -88,12 +96,27 @@ export function makeSession(library, { Hash, rawOf, result, packedHashes, unpack
             let status;
             const fresh = library.over([packed, 8], (at, out) => {
                 status = library.call("yurewha_session_put", pointer, position, at, count, out);
-                if (status === STATUS.SIZES) throw sessionSizes();
-                if (status !== STATUS.SESSION_OVERLAP) library.check(status);
                 return library.count(out);
             });
-            if (status === STATUS.SESSION_OVERLAP) throw new SessionOverlap(`position ${this.#takenFrom(position)} is taken`);
+            this.#checkPut(status, position);
             return fresh;
+        }
+
+        putRange(first, count, range) {
+            const [position, many] = [u64(first, "a position"), u64(count, "the number of chunks")];
+            const { pointer } = this.#handle;
+            const status = library.call("yurewha_session_put_range", pointer, position, many, pointerOf(range));
+            this.#checkPut(status, position, noRange(position, many));
+        }
+
+        join(other) {
+            if (other !== this) return this.#joined(other);
+            const copy = this.clone();
+            try {
+                return this.#joined(copy);
+            } finally {
+                copy.free();
+            }
         }
 
         taken(position) {
@@ -266,6 +289,27 @@ export function makeSession(library, { Hash, rawOf, result, packedHashes, unpack
             return hash;
         }
 
+        /** Throws the error of a put at positions from one on, unless the status is 0. */
+        #checkPut(status, position, what) {
+            if (status === STATUS.SESSION_OVERLAP) throw new SessionOverlap(`position ${this.#takenFrom(position)} is taken`);
+            check(status, what);
+        }
+
+        /** Joins another object, and returns how many of the hashes that it knows are new. */
+        #joined(other) {
+            const isOne = typeof other === "object" && other !== null && #handle in other;
+            if (!isOne) throw wrongType("the other", "be a Session of the same module", other);
+            const pointers = [this.#handle.pointer, other.#handle.pointer];
+            let status;
+            const fresh = library.over([8], (out) => {
+                status = library.call("yurewha_session_join", ...pointers, out);
+                return library.count(out);
+            });
+            if (status === STATUS.SESSION_OVERLAP) throw new SessionOverlap(`position ${this.#takenInBoth(other)} is taken in both`);
+            check(status);
+            return fresh;
+        }
+
         /** Why the taken positions aren't those below the total. */
         #whyNoHash(total) {
             const gap = this.#nextGap(0n, total);
@@ -276,6 +320,13 @@ export function makeSession(library, { Hash, rawOf, result, packedHashes, unpack
         #takenFrom(position) {
             const [first] = this.#positionsFrom(position);
             return first > position ? first : position;
+        }
+
+        /** The first position that is taken here and in another session, which there is. */
+        #takenInBoth(other) {
+            let position = this.#takenFrom(0n);
+            for (let theirs; (theirs = other.#takenFrom(position)) !== position; ) position = this.#takenFrom(theirs);
+            return position;
         }
 
         /** The positions of the first run that ends after a position; if there is none, no number is as great as they are. */

@@ -39,6 +39,7 @@ CALLS = {
     "session_run": "session number", "session_run_from": "session number", "session_next_gap": "session number number",
     "session_gaps": "session number", "session_root": "session number", "session_finish": "session number",
     "session_finish_with_salt": "session number bytes", "session_copy": "session",
+    "session_put_range": "session number number subtree", "session_join": "session session",
     "session_push_run": "session number number subtree", "session_keep_hashes": "session hashes",
     "session_num_known_hashes": "session", "session_known_hashes": "session", "session_knows": "session hash",
     "session_knows_each": "session hashes", "session_to_json": "session", "session_from_json": "text",

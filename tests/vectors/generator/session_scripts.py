@@ -13,7 +13,7 @@ from .steps import subtree_is
 
 MAX = m.MAX_U64
 SALT = bytes(range(100, 132))
-ERRORS = {1: "SESSION_OVERLAP", 2: "SESSION_POSITIONS", 3: "SIZES", 5: "SESSION_GAP"}
+ERRORS = {1: "SESSION_OVERLAP", 2: "SESSION_POSITIONS", 3: "SIZES", 5: "SESSION_GAP", 6: "ARGUMENTS"}
 NO_HASH = m.random_from_seed(10**9)
 
 HEADER = [
@@ -29,6 +29,11 @@ HEADER = [
     "session_root and session_finish: the root, and the file hash without a salt, of all chunks in the order of their positions. They "
     "are refused with SESSION_GAP if the taken positions aren't exactly those from 0 to total - 1. `position` is the first free one "
     "below the total, or else the first taken one from the total on.",
+    "session_put_range puts a range of a number of chunks at the positions from first on; the session doesn't know the hashes of its "
+    "chunks. It is refused with ARGUMENTS if the number is 0 or the subtree is marked at an end, and otherwise as a put.",
+    "session_join puts all chunks of another session, which is unchanged, at their positions, and keeps the hashes that it knows. The "
+    "answer is how many of these the session didn't know. It is refused with SESSION_OVERLAP if a position is taken in both, and otherwise "
+    "with SIZES as a put.",
     "session_push_run adds a run after all runs, from its first position to the one before its end; the session doesn't know the hashes "
     "of its chunks. It is refused with ARGUMENTS if there is no position, the subtree is marked at an end, or a position from first - 1 "
     "on is taken; otherwise with SIZES as a put. session_keep_hashes keeps hashes as if an earlier put had had them.",
@@ -36,7 +41,8 @@ HEADER = [
     "with ARGUMENTS if there are hashes.",
     "The JSON of a session is that of session_json.",
 ]
-NOTES = {**sessions.NOTES, "Saved": "A session is made again from the runs and the known hashes of another one."}
+NOTES = {**sessions.NOTES, "Saved": "A session is made again from the runs and the known hashes of another one.",
+         "Parts": "Ranges are put, or sessions joined."}
 Called = Callable[..., Any]
 
 
@@ -49,7 +55,8 @@ class Calls:
 
     def _answered(self, of: str, called: str, *given: Any, answer: Called, position: Optional[Callable[[], int]] = None) -> None:
         try:
-            self.steps.append(call(called, of, *given, gives=answer()))
+            gives = answer()
+            self.steps.append(call(called, of, *given, **({} if gives is None else {"gives": gives})))
         except m.SessionFault as found:
             told = {} if position is None or found.number not in (1, 5) else {"position": number(position())}
             self.steps.append(refused(called, of, *given, error=ERRORS[found.number], **told))
@@ -60,10 +67,28 @@ class Calls:
         wanted = range(first, first + len(told.nodes))
         self._answered(of, "session_put", number(first), told.said, answer=lambda: number(session.put(first, told.nodes)),
                        position=lambda: next(it for it in wanted if session.taken(it)))
+        return self._wants(error, f"put at {first}")
+
+    def _wants(self, error: str, what: str) -> Calls:
         found = dict(enumerate(self.steps[-1])).get(2, {}).get("error", "")
         if found != error:
-            raise ValueError(f"put at {first}: {found} and not {error}")
+            raise ValueError(f"{what}: {found} and not {error}")
         return self
+
+    def put_range(self, first: int, told: Told, error: str = "", of: str = "s", count: Optional[int] = None,
+                  marks: tuple[bool, bool] = (False, False)) -> Calls:
+        """A range that is put; of another number of chunks, or with marks, it is refused."""
+        session, many = self.sessions[of], len(told.nodes) if count is None else count
+        self.steps.append(call("subtree_from_chunks", marks[0], told.said, marks[1], makes="r"))
+        self._answered(of, "session_put_range", number(first), number(many), "r",
+                       answer=lambda: session.put_range(first, many, m.Leaf(told.nodes, *marks)),
+                       position=lambda: next(it for it in range(first, first + many) if session.taken(it)))
+        return self._wants(error, f"range at {first}")
+
+    def join(self, other: str, error: str = "", of: str = "s") -> Calls:
+        """A session that is joined to one."""
+        self._answered(of, "session_join", other, answer=lambda: number(self.sessions[of].join(self.sessions[other])))
+        return self._wants(error, f"{other} joined to {of}")
 
     def keeps_hashes(self, of: str = "s") -> Calls:
         """Whether the session keeps hashes."""
@@ -289,6 +314,59 @@ def without_hashes() -> list[dict[str, Any]]:
     ]
 
 
+def parts() -> list[dict[str, Any]]:
+    """Ranges that are put, and sessions that are joined."""
+    one, two, ab, great = lists.seeds([1]), lists.seeds([2, 3]), lists.seeds([1, 2]), lists.sized(MAX)
+    hashes = [m.random_from_seed(k) for k in (1, 2, 3, 4)]
+    overlap, positions = "SESSION_OVERLAP", "SESSION_POSITIONS"
+    return [
+        Calls().put_range(3, two).knows(*hashes).put_range(0, one).put(1, two).put_range(8, ab).runs().gaps(5, 8, 12).knows(*hashes).known()
+        .put_range(5, lists.seeds([4, 5, 6])).runs().close(10, 9).test("ranges at any position", "Parts", "Gap", "EqualHashes"),
+        Calls().put(4, two).put_range(4, one, overlap).put_range(5, two, overlap).put_range(3, two, overlap).put_range(2, two)
+        .put_range(1, lists.seeds([4, 5, 6]), overlap).runs().close(6).test("positions of ranges that are taken", "Parts", "Overlap", "Gap"),
+        Calls().put(4, one).put_range(6, two, "ARGUMENTS", count=0).put_range(4, one, "ARGUMENTS", marks=(True, False))
+        .put_range(6, two, "ARGUMENTS", marks=(False, True)).put_range(4, two, "ARGUMENTS", marks=(True, True)).runs()
+        .test("ranges without a chunk, and with marks", "Parts", "SeveralFaults"),
+        Calls().put_range(MAX, one, positions).put_range(MAX - 1, two, positions).put_range(MAX - 1, one).put_range(MAX - 2, two, overlap)
+        .put_range(MAX, great, positions).put_range(3, great, "SIZES").put_range(MAX - 1, great, overlap).runs().gaps(MAX)
+        .test("ranges at the edges", "Parts", "Positions", "Overlap", "Sizes", "SeveralFaults"),
+        Calls().put(0, ab).put(7, two).new("t").put(4, lists.seeds([3, 4, 1]), of="t").join("t").runs().known().runs("t").known("t")
+        .join("t", overlap).join("s", overlap, of="t").runs().copied("u").join("u", overlap).new("v").join("v").join("s", of="v").sums("v")
+        .put(2, ab, of="v").close(9, 2, of="v").sums().test("two sessions that are joined", "Parts", "Overlap", "Gap", "EqualHashes"),
+        Calls().put(0, one).put(4, one).put(8, one).new("t").put(2, one, of="t").put(5, two, of="t").put(9, two, of="t").copied("u", of="t")
+        .put(8, one, of="u").join("u", overlap).join("s", overlap, of="u").join("t").runs().gaps(12).runs("u")
+        .test("sessions with runs between each other's", "Parts", "Overlap", "EqualHashes"),
+        Calls().put(0, one).new("t").put(3, great, of="t").join("t", "SIZES").join("s", "SIZES", of="t").put(3, two).join("t", overlap)
+        .runs().runs("t").test("sizes of joined sessions at the edge of 64 bits", "Parts", "Sizes", "SeveralFaults"),
+        Calls(False).put(0, ab).new("t").put(2, two, of="t").keep(hashes[3], of="t").copied("u").join("t").knows(*hashes).known().keeps_hashes()
+        .join("u", of="t").known("t").keeps_hashes("t").runs().close(4).close(4, of="t")
+        .test("a session without hashes keeps none of those that are joined", "Parts", "EqualHashes"),
+    ]
+
+
+def drawn_tree(seed: int, told: Told, pieces: int) -> dict[str, Any]:
+    """The chunks of a list, in parts: all of them put as ranges in random order, and sessions of them joined in a random tree."""
+    rng = m.Xoshiro256PlusPlus(seed)
+    count = len(told.nodes)
+    places = sorted({0, count, *(rng.below(count) for _ in range(pieces))})
+    left, names = list(zip(places, places[1:])), ["none"]
+    calls = Calls().new("none")
+    while left:
+        first, end = left.pop(rng.below(len(left)))
+        part, name = Told({**told.said, "part": [first, end]}, told.nodes[first:end]), f"from{first}"
+        calls.put_range(first, part).put_range(first, part, "SESSION_OVERLAP").new(name)
+        if rng.below(2):
+            calls.put(first, part, of=name)
+        else:
+            calls.put_range(first, part, of=name)
+        names.append(name)
+    while len(names) > 1:
+        other, one = names.pop(rng.below(len(names))), names[rng.below(len(names))]
+        calls.join(other, of=one).sums(one)
+    return calls.runs().close(count).runs(names[0]).known(names[0]).close(count, of=names[0]).test(f"{count} chunks in parts, joined in a drawn tree",
+                                                                                                  "Parts")
+
+
 def drawn_order(seed: int, told: Told, pieces: int) -> dict[str, Any]:
     """The chunks of a list, put in pieces in random order. The session is made again on the way."""
     rng = m.Xoshiro256PlusPlus(seed)
@@ -309,9 +387,10 @@ def drawn() -> list[dict[str, Any]]:
     """Lists, put in pieces in random order."""
     chosen = [lists.pattern("...|" * 6), lists.drawn(1, 60), lists.pattern("." * 20), lists.pattern("|" * 14),
               lists.pattern(lists.by_gaps((3, 7), 40)), lists.drawn(5000, 90)]
-    return [drawn_order(seed, told, pieces) for seed, told in enumerate(chosen) for pieces in (3, 8)]
+    orders = [drawn_order(seed, told, pieces) for seed, told in enumerate(chosen) for pieces in (3, 8)]
+    return [*orders, *(drawn_tree(seed, told, 6) for seed, told in enumerate(chosen))]
 
 
 def script() -> Script:
     """sessions.jsonl."""
-    return Script("sessions", HEADER, NOTES, [*examples(), *faults(), *saves(), *without_hashes(), *drawn()])
+    return Script("sessions", HEADER, NOTES, [*examples(), *faults(), *saves(), *without_hashes(), *parts(), *drawn()])

@@ -15,13 +15,14 @@ use std::sync::MutexGuard;
 mod comparing;
 #[cfg(feature = "serde")]
 mod forms;
+mod joining;
 mod saving;
 
 /// Why a call of a session failed. If several reasons apply, the call returns the first of them, unless an allocation
 /// fails before that. After a failure nothing has changed.
 ///
-/// In Python and JavaScript these are the errors `SessionOverlap`, `SessionPositions`, `SessionSizes`, `OutOfMemory` and
-/// `SessionGap`.
+/// In Python and JavaScript these are the errors `InvalidArguments`, `SessionOverlap`, `SessionPositions`, `SessionSizes`,
+/// `OutOfMemory` and `SessionGap`.
 ///
 /// ```
 /// use yurewha::own::SessionFault;
@@ -31,6 +32,8 @@ mod saving;
 #[derive(Clone, Copy, Debug, PartialEq, Eq)]
 #[non_exhaustive]
 pub enum SessionFault {
+    /// A range that is [put](Session::put_range) is said to have no chunk, or is marked at an end.
+    InvalidArguments,
     /// A position is taken.
     Overlap,
     /// The first position plus the number of chunks is more than `u64::MAX`.
@@ -46,6 +49,7 @@ pub enum SessionFault {
 impl fmt::Display for SessionFault {
     fn fmt(&self, f: &mut fmt::Formatter<'_>) -> fmt::Result {
         match self {
+            SessionFault::InvalidArguments => f.write_str("a range has no chunk, or is marked at an end"),
             SessionFault::Overlap => StatusText::of(ffi::YUREWHA_SESSION_OVERLAP).fmt(f),
             SessionFault::Positions => f.write_str("positions past 2^64 - 1"),
             SessionFault::Sizes => f.write_str("sizes past 2^64 - 1"),
@@ -60,6 +64,7 @@ impl std::error::Error for SessionFault {}
 impl Refusal for SessionFault {
     fn of(status: ffi::yurewha_status) -> Option<Self> {
         match status {
+            ffi::YUREWHA_ARGUMENTS => Some(SessionFault::InvalidArguments),
             ffi::YUREWHA_SESSION_OVERLAP => Some(SessionFault::Overlap),
             ffi::YUREWHA_SESSION_POSITIONS => Some(SessionFault::Positions),
             ffi::YUREWHA_SIZES => Some(SessionFault::Sizes),
@@ -90,6 +95,9 @@ impl Refusal for SessionFault {
 ///
 /// A session can be saved and restored: with serde, or by its runs and [`known_hashes`](Self::known_hashes), which
 /// [`push_run`](Self::push_run) and [`keep_hashes`](Self::keep_hashes) put into another session.
+///
+/// If many machines hash a file, each of them has the subtree of its chunks, or a session, and in whatever order these come,
+/// [`put_range`](Self::put_range) and [`join`](Self::join) make one session of them.
 ///
 /// Threads may share a session. Threads that read it at once take turns, call by call.
 pub struct Session {
@@ -579,6 +587,7 @@ mod tests {
     #[test]
     fn each_status_has_its_fault() {
         let faults = [
+            (ffi::YUREWHA_ARGUMENTS, SessionFault::InvalidArguments),
             (ffi::YUREWHA_SESSION_OVERLAP, SessionFault::Overlap),
             (ffi::YUREWHA_SESSION_POSITIONS, SessionFault::Positions),
             (ffi::YUREWHA_SIZES, SessionFault::Sizes),

@@ -14,6 +14,7 @@ mod hash_indexes;
 mod hashed_write;
 #[cfg(target_os = "linux")]
 mod held_up;
+mod joining;
 mod json;
 mod long;
 mod map;

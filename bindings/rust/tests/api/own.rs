@@ -151,7 +151,8 @@ fn errors_may_get_more_variants() {
     let _ = |fault: own::SessionFault| match fault {
         own::SessionFault::Overlap | own::SessionFault::Positions | own::SessionFault::Sizes => 1,
         own::SessionFault::OutOfMemory | own::SessionFault::Gap => 2,
-        _ => 3,
+        own::SessionFault::InvalidArguments => 3,
+        _ => 4,
     };
     let _ = |fault: own::OpenFault| match fault {
         own::OpenFault::ProofMismatch | own::OpenFault::OutOfMemory => 1,

@@ -293,6 +293,10 @@ fn drawn_sessions_have_the_gaps_and_the_size_of_what_was_placed() {
 #[test]
 fn faults_have_their_texts() {
     let texts = [
+        (
+            SessionFault::InvalidArguments,
+            "a range has no chunk, or is marked at an end",
+        ),
         (SessionFault::Overlap, "a position is taken"),
         (SessionFault::Positions, "positions past 2^64 - 1"),
         (SessionFault::Sizes, "sizes past 2^64 - 1"),
