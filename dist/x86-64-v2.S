@@ -1,5 +1,5 @@
 /* Yurewha 1.1.0 for x86-64-v2: the kernels of the proved library, as the toolchain compiles it. Made by dist/make, not by hand.
-   The sum of its sources: 619f36769a5431f9c4d0aa8864d20d142ba29c28a2247fd1e9bf4b5b6a4d0f6d */
+   The sum of its sources: 9f27598952ba9691f7deda6fc4a73bcce6b881aa2a1edd98ac143c424a08c115 */
 #include "assembly.h"
 #ifdef __x86_64__
 CODE(".text.keyed_blake3::keyed_hash")

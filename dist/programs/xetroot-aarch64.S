@@ -1,5 +1,5 @@
 /* Yurewha 1.1.0 for aarch64: the proved program xetroot, as the toolchain compiles it. Made by dist/make, not by hand.
-   The sum of its sources: e2454da47c57a2dd8ee3964cc3ea6ecc76abd22674a47b11f1512ec58cf853a8 */
+   The sum of its sources: 9185823a781027cd98182078e1d539d530be4d65c5a122c359852dba8528b11c */
 #include "../assembly.h"
 #ifdef __aarch64__
 CODE(".text.unlikely.std_alloc::vec::Vec::grow_amortized::<#bc82ad78765e08fe>")

@@ -1,5 +1,5 @@
 /* Yurewha 1.1.0 for windows-x86-64: the proved program xetroot, as the toolchain compiles it. Made by dist/make, not by hand.
-   The sum of its sources: e2454da47c57a2dd8ee3964cc3ea6ecc76abd22674a47b11f1512ec58cf853a8 */
+   The sum of its sources: 9185823a781027cd98182078e1d539d530be4d65c5a122c359852dba8528b11c */
 	.section	.text
 	.p2align	4
 	.def	"std_alloc::vec::Vec::grow_amortized::<#bc82ad78765e08fe>";
@@ -1687,7 +1687,7 @@
 	.seh_endprologue
 	movq	40(%rcx), %rbx
 	testq	%rbx, %rbx
-	je	.LBB11_180
+	je	.LBB11_181
 	movq	%rcx, %rsi
 	movq	32(%rcx), %r8
 	movq	56(%rcx), %r14
@@ -1707,7 +1707,7 @@
 .LBB11_3:
 	movb	$1, %al
 	cmpb	$2, %r13b
-	je	.LBB11_181
+	je	.LBB11_182
 .LBB11_4:
 	ud2
 .LBB11_5:
@@ -2079,11 +2079,11 @@
 	xorl	%r9d, %r9d
 	callq	"xet_merkle::merkle_hash_subtree::subtree::as_range::MerkleHashSubtreeChunkRange::from_chunks::<#d96a70c1b70ca186>"
 	cmpb	$0, 80(%rsp)
-	je	.LBB11_183
+	je	.LBB11_184
 	movzbl	81(%rsp), %r13d
 	movq	352(%rsp), %rdi
 	testq	%rbp, %rbp
-	jne	.LBB11_240
+	jne	.LBB11_241
 	jmp	.LBB11_84
 .LBB11_87:
 	xorps	%xmm0, %xmm0
@@ -2211,16 +2211,16 @@
 	xorl	%r9d, %r9d
 	callq	"xet_merkle::merkle_hash_subtree::subtree::as_range::MerkleHashSubtreeChunkRange::from_chunks::<#d96a70c1b70ca186>"
 	cmpb	$0, 144(%rsp)
-	je	.LBB11_192
+	je	.LBB11_193
 	movzbl	145(%rsp), %r13d
 	testq	%rbp, %rbp
-	je	.LBB11_182
+	je	.LBB11_183
 	leaq	48(%r12), %rdi
 	jmp	.LBB11_110
 .LBB11_109:
 	addq	$56, %rdi
 	decq	%rbp
-	je	.LBB11_182
+	je	.LBB11_183
 .LBB11_110:
 	movq	-16(%rdi), %rsi
 	movq	(%rdi), %rbx
@@ -2251,7 +2251,7 @@
 	cmpb	$0, 64(%rsp)
 	je	.LBB11_125
 	cmpb	$1, (%rsi)
-	jne	.LBB11_156
+	jne	.LBB11_157
 	leaq	152(%rsp), %r8
 	leaq	8(%rsi), %rax
 	movq	8(%rsi), %r13
@@ -2286,10 +2286,10 @@
 .LBB11_122:
 	movzbl	%bpl, %ebp
 	testl	%ebp, %ebp
-	jne	.LBB11_136
+	jne	.LBB11_137
 .LBB11_123:
 	cmpw	$0, 2(%r11)
-	je	.LBB11_156
+	je	.LBB11_157
 	incq	%rdx
 	movq	848(%r11,%r9,8), %r13
 	movq	%r9, %r10
@@ -2302,7 +2302,7 @@
 	movq	%r14, %r8
 	callq	"std_collections::btree_map::BTreeMap::insert::<#09be7a39fcfa9307>"
 	cmpb	$0, 80(%rsp)
-	je	.LBB11_145
+	je	.LBB11_146
 	movq	112(%rsp), %rsi
 	movq	120(%rsp), %r14
 	movq	128(%rsp), %rbx
@@ -2334,9 +2334,10 @@
 	testq	%rbx, %rbx
 	je	.LBB11_3
 	movq	%rsi, %rcx
+.LBB11_136:
 	callq	yurewha_heap_dealloc
 	jmp	.LBB11_3
-.LBB11_136:
+.LBB11_137:
 	andl	$15, %r9d
 	addq	%rdx, %rcx
 	cmpq	$15, %rcx
@@ -2360,153 +2361,153 @@
 	cmpb	$0, 272(%rsp)
 	movzbl	273(%rsp), %r13d
 	cmovel	%ebp, %r13d
-	je	.LBB11_155
+	je	.LBB11_156
 	movq	160(%rsp), %rsi
 	movq	168(%rsp), %r14
 	movq	176(%rsp), %rbx
 	testq	%r14, %r14
 	je	.LBB11_134
 	leaq	48(%rsi), %r15
-	jmp	.LBB11_141
+	jmp	.LBB11_142
 	.p2align	4
-.LBB11_140:
+.LBB11_141:
 	addq	$56, %r15
 	decq	%r14
 	je	.LBB11_134
-.LBB11_141:
+.LBB11_142:
 	movq	-16(%r15), %rdi
 	movq	(%r15), %r12
 	cmpq	$0, -32(%r15)
-	je	.LBB11_143
+	je	.LBB11_144
 	movq	-48(%r15), %rcx
 	callq	yurewha_heap_dealloc
-.LBB11_143:
+.LBB11_144:
 	testq	%r12, %r12
-	je	.LBB11_140
+	je	.LBB11_141
 	movq	%rdi, %rcx
 	callq	yurewha_heap_dealloc
-	jmp	.LBB11_140
-.LBB11_145:
+	jmp	.LBB11_141
+.LBB11_146:
 	cmpb	$1, 88(%rsp)
-	jne	.LBB11_156
+	jne	.LBB11_157
 	movq	112(%rsp), %rdi
 	movq	120(%rsp), %r13
 	movq	128(%rsp), %r12
 	testq	%r13, %r13
-	je	.LBB11_153
+	je	.LBB11_154
 	leaq	48(%rdi), %rbp
-	jmp	.LBB11_149
+	jmp	.LBB11_150
 	.p2align	4
-.LBB11_148:
+.LBB11_149:
 	addq	$56, %rbp
 	decq	%r13
-	je	.LBB11_153
-.LBB11_149:
+	je	.LBB11_154
+.LBB11_150:
 	movq	-16(%rbp), %r14
 	movq	(%rbp), %r15
 	cmpq	$0, -32(%rbp)
-	je	.LBB11_151
+	je	.LBB11_152
 	movq	-48(%rbp), %rcx
 	callq	yurewha_heap_dealloc
-.LBB11_151:
+.LBB11_152:
 	testq	%r15, %r15
-	je	.LBB11_148
+	je	.LBB11_149
 	movq	%r14, %rcx
 	callq	yurewha_heap_dealloc
-	jmp	.LBB11_148
-.LBB11_153:
+	jmp	.LBB11_149
+.LBB11_154:
 	testq	%r12, %r12
-	je	.LBB11_156
+	je	.LBB11_157
 	movq	%rdi, %rcx
 	callq	yurewha_heap_dealloc
-	jmp	.LBB11_156
-.LBB11_155:
+	jmp	.LBB11_157
+.LBB11_156:
 	leaq	(%r14,%r15), %rax
 	addq	$128, %rax
 	movq	%rdi, (%rax)
-.LBB11_156:
+.LBB11_157:
 	leaq	192(%rsp), %rcx
 	movq	%rsi, %rdx
 	movq	%rbx, %r8
 	callq	"std_collections::btree_map::BTreeMap::remove::<#0b8f5120abf1300c>"
 	cmpb	$1, 192(%rsp)
-	jne	.LBB11_166
+	jne	.LBB11_167
 	movq	216(%rsp), %rdi
 	movq	224(%rsp), %r15
 	movq	232(%rsp), %r14
 	testq	%r15, %r15
-	je	.LBB11_164
+	je	.LBB11_165
 	leaq	48(%rdi), %r13
-	jmp	.LBB11_160
+	jmp	.LBB11_161
 	.p2align	4
-.LBB11_159:
+.LBB11_160:
 	addq	$56, %r13
 	decq	%r15
-	je	.LBB11_164
-.LBB11_160:
+	je	.LBB11_165
+.LBB11_161:
 	movq	-16(%r13), %rbx
 	movq	(%r13), %rbp
 	cmpq	$0, -32(%r13)
-	je	.LBB11_162
+	je	.LBB11_163
 	movq	-48(%r13), %rcx
 	callq	yurewha_heap_dealloc
-.LBB11_162:
+.LBB11_163:
 	testq	%rbp, %rbp
-	je	.LBB11_159
+	je	.LBB11_160
 	movq	%rbx, %rcx
 	callq	yurewha_heap_dealloc
-	jmp	.LBB11_159
-.LBB11_164:
+	jmp	.LBB11_160
+.LBB11_165:
 	testq	%r14, %r14
-	je	.LBB11_166
+	je	.LBB11_167
 	movq	%rdi, %rcx
 	callq	yurewha_heap_dealloc
-.LBB11_166:
+.LBB11_167:
 	cmpb	$0, 64(%rsp)
-	je	.LBB11_176
+	je	.LBB11_177
 	movq	160(%rsp), %rdi
 	movq	168(%rsp), %r15
 	movq	176(%rsp), %r14
 	testq	%r15, %r15
-	je	.LBB11_174
+	je	.LBB11_175
 	leaq	48(%rdi), %r12
-	jmp	.LBB11_170
+	jmp	.LBB11_171
 	.p2align	4
-.LBB11_169:
+.LBB11_170:
 	addq	$56, %r12
 	decq	%r15
-	je	.LBB11_174
-.LBB11_170:
+	je	.LBB11_175
+.LBB11_171:
 	movq	-16(%r12), %rbx
 	movq	(%r12), %r13
 	cmpq	$0, -32(%r12)
-	je	.LBB11_172
+	je	.LBB11_173
 	movq	-48(%r12), %rcx
 	callq	yurewha_heap_dealloc
-.LBB11_172:
+.LBB11_173:
 	testq	%r13, %r13
-	je	.LBB11_169
+	je	.LBB11_170
 	movq	%rbx, %rcx
 	callq	yurewha_heap_dealloc
-	jmp	.LBB11_169
-.LBB11_174:
+	jmp	.LBB11_170
+.LBB11_175:
 	testq	%r14, %r14
-	je	.LBB11_176
+	je	.LBB11_177
 	movq	%rdi, %rcx
 	callq	yurewha_heap_dealloc
-.LBB11_176:
-	movq	256(%rsp), %r12
 .LBB11_177:
+	movq	256(%rsp), %r12
+.LBB11_178:
 	movq	%r12, 24(%rsi)
 	cmpq	$0, 40(%rsi)
-	je	.LBB11_179
+	je	.LBB11_180
 	movq	$0, 40(%rsi)
-.LBB11_179:
+.LBB11_180:
 	movq	64(%rsi), %rax
 	movq	%rax, 56(%rsi)
-.LBB11_180:
-	xorl	%eax, %eax
 .LBB11_181:
+	xorl	%eax, %eax
+.LBB11_182:
 	movaps	560(%rsp), %xmm6
 	addq	$584, %rsp
 	popq	%rbx
@@ -2518,11 +2519,11 @@
 	popq	%r14
 	popq	%r15
 	retq
-.LBB11_182:
+.LBB11_183:
 	testq	%r15, %r15
 	jne	.LBB11_85
 	jmp	.LBB11_3
-.LBB11_183:
+.LBB11_184:
 	movq	120(%rsp), %rax
 	movq	%rax, 224(%rsp)
 	movups	88(%rsp), %xmm0
@@ -2530,16 +2531,16 @@
 	movaps	%xmm1, 208(%rsp)
 	movaps	%xmm0, 192(%rsp)
 	cmpb	$1, (%rsi)
-	jne	.LBB11_220
+	jne	.LBB11_221
 	movq	(%r13), %rax
 	movzwl	(%rax), %edx
 	testq	%rdx, %rdx
-	je	.LBB11_189
-.LBB11_185:
+	je	.LBB11_190
+.LBB11_186:
 	leaq	136(%rax), %r8
 	leal	(,%rdx,8), %r9d
 	xorl	%ecx, %ecx
-.LBB11_186:
+.LBB11_187:
 	movq	8(%rax,%rcx), %r10
 	cmpq	%r10, %r15
 	setae	%r11b
@@ -2549,32 +2550,32 @@
 	movl	$1, %r10d
 	cmovnel	%r11d, %r10d
 	cmpb	$2, %r10b
-	jne	.LBB11_211
+	jne	.LBB11_212
 	addq	$48, %r8
 	addq	$8, %rcx
 	cmpq	%rcx, %r9
-	jne	.LBB11_186
+	jne	.LBB11_187
 	shll	$3, %edx
 	movq	%rdx, %rcx
-	jmp	.LBB11_190
-.LBB11_211:
+	jmp	.LBB11_191
+.LBB11_212:
 	movzbl	%r10b, %edx
 	testl	%edx, %edx
-	je	.LBB11_190
-	jmp	.LBB11_212
-.LBB11_189:
-	xorl	%ecx, %ecx
+	je	.LBB11_191
+	jmp	.LBB11_213
 .LBB11_190:
+	xorl	%ecx, %ecx
+.LBB11_191:
 	cmpw	$0, 2(%rax)
-	je	.LBB11_220
+	je	.LBB11_221
 	leaq	(%rax,%rcx), %r13
 	addq	$848, %r13
 	movq	(%r13), %rax
 	movzwl	(%rax), %edx
 	testq	%rdx, %rdx
-	jne	.LBB11_185
-	jmp	.LBB11_189
-.LBB11_192:
+	jne	.LBB11_186
+	jmp	.LBB11_190
+.LBB11_193:
 	movq	%rbx, 272(%rsp)
 	movups	152(%rsp), %xmm0
 	movups	168(%rsp), %xmm1
@@ -2588,67 +2589,66 @@
 	movq	%r14, %r8
 	callq	"std_collections::btree_map::BTreeMap::insert::<#09be7a39fcfa9307>"
 	cmpb	$0, 80(%rsp)
-	je	.LBB11_230
+	je	.LBB11_231
 	movq	112(%rsp), %rsi
 	movq	120(%rsp), %r14
 	movq	128(%rsp), %rdi
 	testq	%r14, %r14
-	je	.LBB11_200
+	je	.LBB11_201
 	leaq	48(%rsi), %r12
-	jmp	.LBB11_196
-.LBB11_195:
+	jmp	.LBB11_197
+.LBB11_196:
 	addq	$56, %r12
 	decq	%r14
-	je	.LBB11_200
-.LBB11_196:
+	je	.LBB11_201
+.LBB11_197:
 	movq	-16(%r12), %rbx
 	movq	(%r12), %r13
 	cmpq	$0, -32(%r12)
-	je	.LBB11_198
+	je	.LBB11_199
 	movq	-48(%r12), %rcx
 	callq	yurewha_heap_dealloc
-.LBB11_198:
+.LBB11_199:
 	testq	%r13, %r13
-	je	.LBB11_195
+	je	.LBB11_196
 	movq	%rbx, %rcx
 	callq	yurewha_heap_dealloc
-	jmp	.LBB11_195
-.LBB11_200:
+	jmp	.LBB11_196
+.LBB11_201:
 	testq	%rdi, %rdi
-	je	.LBB11_202
+	je	.LBB11_203
 	movq	%rsi, %rcx
 	callq	yurewha_heap_dealloc
-.LBB11_202:
+.LBB11_203:
 	testq	%rbp, %rbp
 	movq	72(%rsp), %r14
-	je	.LBB11_209
+	je	.LBB11_210
 	leaq	48(%r14), %rdi
-	jmp	.LBB11_205
-.LBB11_204:
+	jmp	.LBB11_206
+.LBB11_205:
 	addq	$56, %rdi
 	decq	%rbp
-	je	.LBB11_209
-.LBB11_205:
+	je	.LBB11_210
+.LBB11_206:
 	movq	-16(%rdi), %rsi
 	movq	(%rdi), %rbx
 	cmpq	$0, -32(%rdi)
-	je	.LBB11_207
+	je	.LBB11_208
 	movq	-48(%rdi), %rcx
 	callq	yurewha_heap_dealloc
-.LBB11_207:
+.LBB11_208:
 	testq	%rbx, %rbx
-	je	.LBB11_204
+	je	.LBB11_205
 	movq	%rsi, %rcx
 	callq	yurewha_heap_dealloc
-	jmp	.LBB11_204
-.LBB11_209:
+	jmp	.LBB11_205
+.LBB11_210:
 	movb	$2, %r13b
 	testq	%r15, %r15
 	je	.LBB11_3
 	movq	%r14, %rcx
-	callq	yurewha_heap_dealloc
-	jmp	.LBB11_3
-.LBB11_212:
+	jmp	.LBB11_136
+.LBB11_213:
 	xorps	%xmm0, %xmm0
 	movaps	%xmm0, 160(%rsp)
 	movaps	%xmm0, 144(%rsp)
@@ -2660,32 +2660,32 @@
 	cmpb	$0, 144(%rsp)
 	movzbl	145(%rsp), %r13d
 	cmovel	%edi, %r13d
-	je	.LBB11_220
+	je	.LBB11_221
 	movq	200(%rsp), %rsi
 	movq	208(%rsp), %r14
 	movq	216(%rsp), %rdi
 	testq	%r14, %r14
-	je	.LBB11_228
+	je	.LBB11_229
 	leaq	48(%rsi), %r15
-	jmp	.LBB11_216
-.LBB11_215:
+	jmp	.LBB11_217
+.LBB11_216:
 	addq	$56, %r15
 	decq	%r14
-	je	.LBB11_228
-.LBB11_216:
+	je	.LBB11_229
+.LBB11_217:
 	movq	-16(%r15), %rbx
 	movq	(%r15), %r12
 	cmpq	$0, -32(%r15)
-	je	.LBB11_218
+	je	.LBB11_219
 	movq	-48(%r15), %rcx
 	callq	yurewha_heap_dealloc
-.LBB11_218:
+.LBB11_219:
 	testq	%r12, %r12
-	je	.LBB11_215
+	je	.LBB11_216
 	movq	%rbx, %rcx
 	callq	yurewha_heap_dealloc
-	jmp	.LBB11_215
-.LBB11_220:
+	jmp	.LBB11_216
+.LBB11_221:
 	xorps	%xmm0, %xmm0
 	movaps	%xmm0, 160(%rsp)
 	movaps	%xmm0, 144(%rsp)
@@ -2698,98 +2698,98 @@
 	cmpb	$0, 144(%rsp)
 	movzbl	145(%rsp), %r13d
 	cmovel	%edi, %r13d
-	je	.LBB11_246
+	je	.LBB11_247
 	movq	200(%rsp), %rsi
 	movq	208(%rsp), %r14
 	movq	216(%rsp), %rdi
 	testq	%r14, %r14
-	je	.LBB11_228
+	je	.LBB11_229
 	leaq	48(%rsi), %r15
-	jmp	.LBB11_224
-.LBB11_223:
+	jmp	.LBB11_225
+.LBB11_224:
 	addq	$56, %r15
 	decq	%r14
-	je	.LBB11_228
-.LBB11_224:
+	je	.LBB11_229
+.LBB11_225:
 	movq	-16(%r15), %rbx
 	movq	(%r15), %r12
 	cmpq	$0, -32(%r15)
-	je	.LBB11_226
+	je	.LBB11_227
 	movq	-48(%r15), %rcx
 	callq	yurewha_heap_dealloc
-.LBB11_226:
+.LBB11_227:
 	testq	%r12, %r12
-	je	.LBB11_223
+	je	.LBB11_224
 	movq	%rbx, %rcx
 	callq	yurewha_heap_dealloc
-	jmp	.LBB11_223
-.LBB11_228:
+	jmp	.LBB11_224
+.LBB11_229:
 	testq	%rdi, %rdi
-	je	.LBB11_229
+	je	.LBB11_230
 	movq	%rsi, %rcx
 	callq	yurewha_heap_dealloc
 	movq	72(%rsp), %r12
 	movq	352(%rsp), %rdi
 	testq	%rbp, %rbp
-	jne	.LBB11_240
+	jne	.LBB11_241
 	jmp	.LBB11_84
-.LBB11_230:
+.LBB11_231:
 	cmpb	$1, 88(%rsp)
-	jne	.LBB11_256
+	jne	.LBB11_257
 	movq	112(%rsp), %rax
 	movq	%rax, 64(%rsp)
 	movq	120(%rsp), %r13
 	movq	128(%rsp), %rax
 	movq	%rax, 320(%rsp)
 	testq	%r13, %r13
-	je	.LBB11_254
+	je	.LBB11_255
 	movq	64(%rsp), %rax
 	leaq	48(%rax), %r15
-	jmp	.LBB11_234
-.LBB11_233:
+	jmp	.LBB11_235
+.LBB11_234:
 	addq	$56, %r15
 	decq	%r13
-	je	.LBB11_254
-.LBB11_234:
+	je	.LBB11_255
+.LBB11_235:
 	movq	-16(%r15), %r12
 	movq	(%r15), %rdi
 	cmpq	$0, -32(%r15)
-	je	.LBB11_236
+	je	.LBB11_237
 	movq	-48(%r15), %rcx
 	callq	yurewha_heap_dealloc
-.LBB11_236:
+.LBB11_237:
 	testq	%rdi, %rdi
-	je	.LBB11_233
+	je	.LBB11_234
 	movq	%r12, %rcx
 	callq	yurewha_heap_dealloc
-	jmp	.LBB11_233
-.LBB11_229:
+	jmp	.LBB11_234
+.LBB11_230:
 	movq	72(%rsp), %r12
 	movq	352(%rsp), %rdi
 	testq	%rbp, %rbp
 	je	.LBB11_84
-.LBB11_240:
-	leaq	48(%r12), %rbx
-	jmp	.LBB11_242
-	.p2align	4
 .LBB11_241:
+	leaq	48(%r12), %rbx
+	jmp	.LBB11_243
+	.p2align	4
+.LBB11_242:
 	addq	$56, %rbx
 	decq	%rbp
 	je	.LBB11_84
-.LBB11_242:
+.LBB11_243:
 	movq	-16(%rbx), %rsi
 	movq	(%rbx), %r14
 	cmpq	$0, -32(%rbx)
-	je	.LBB11_244
+	je	.LBB11_245
 	movq	-48(%rbx), %rcx
 	callq	yurewha_heap_dealloc
-.LBB11_244:
+.LBB11_245:
 	testq	%r14, %r14
-	je	.LBB11_241
+	je	.LBB11_242
 	movq	%rsi, %rcx
 	callq	yurewha_heap_dealloc
-	jmp	.LBB11_241
-.LBB11_246:
+	jmp	.LBB11_242
+.LBB11_247:
 	movq	224(%rsp), %rax
 	movq	%rax, 405(%rsp)
 	movaps	192(%rsp), %xmm0
@@ -2806,44 +2806,43 @@
 	movq	%r15, %r8
 	callq	"upload_session::runs::Runs::put_before_next::<#ca9445b3ca2ffbf0>"
 	cmpb	$0, 56(%rsp)
-	je	.LBB11_265
+	je	.LBB11_266
 	movzbl	57(%rsp), %r13d
 	movq	352(%rsp), %rdi
 	testq	%rbp, %rbp
 	je	.LBB11_84
 	leaq	48(%r12), %rbx
-	jmp	.LBB11_250
-.LBB11_249:
+	jmp	.LBB11_251
+.LBB11_250:
 	addq	$56, %rbx
 	decq	%rbp
 	je	.LBB11_84
-.LBB11_250:
+.LBB11_251:
 	movq	-16(%rbx), %rsi
 	movq	(%rbx), %r14
 	cmpq	$0, -32(%rbx)
-	je	.LBB11_252
+	je	.LBB11_253
 	movq	-48(%rbx), %rcx
 	callq	yurewha_heap_dealloc
-.LBB11_252:
+.LBB11_253:
 	testq	%r14, %r14
-	je	.LBB11_249
+	je	.LBB11_250
 	movq	%rsi, %rcx
 	callq	yurewha_heap_dealloc
-	jmp	.LBB11_249
+	jmp	.LBB11_250
 .LBB11_84:
 	testq	%rdi, %rdi
 	je	.LBB11_3
 .LBB11_85:
 	movq	%r12, %rcx
-	callq	yurewha_heap_dealloc
-	jmp	.LBB11_3
-.LBB11_254:
+	jmp	.LBB11_136
+.LBB11_255:
 	cmpq	$0, 320(%rsp)
 	movq	72(%rsp), %r12
-	je	.LBB11_256
+	je	.LBB11_257
 	movq	64(%rsp), %rcx
 	callq	yurewha_heap_dealloc
-.LBB11_256:
+.LBB11_257:
 	movq	264(%rsp), %rax
 	movq	%rax, 520(%rsp)
 	movq	%r12, 528(%rsp)
@@ -2856,7 +2855,7 @@
 	movq	%r14, %r8
 	callq	"upload_session::runs::Runs::put_before_next::<#ca9445b3ca2ffbf0>"
 	cmpb	$0, 60(%rsp)
-	je	.LBB11_176
+	je	.LBB11_177
 	movzbl	61(%rsp), %r13d
 	leaq	192(%rsp), %rcx
 	movq	%rsi, %rdx
@@ -2870,55 +2869,55 @@
 	testq	%r14, %r14
 	je	.LBB11_134
 	leaq	48(%rsi), %r15
-	jmp	.LBB11_261
-.LBB11_260:
+	jmp	.LBB11_262
+.LBB11_261:
 	addq	$56, %r15
 	decq	%r14
 	je	.LBB11_134
-.LBB11_261:
+.LBB11_262:
 	movq	-16(%r15), %rdi
 	movq	(%r15), %r12
 	cmpq	$0, -32(%r15)
-	je	.LBB11_263
+	je	.LBB11_264
 	movq	-48(%r15), %rcx
 	callq	yurewha_heap_dealloc
-.LBB11_263:
+.LBB11_264:
 	testq	%r12, %r12
-	je	.LBB11_260
+	je	.LBB11_261
 	movq	%rdi, %rcx
 	callq	yurewha_heap_dealloc
-	jmp	.LBB11_260
-.LBB11_265:
+	jmp	.LBB11_261
+.LBB11_266:
 	movq	352(%rsp), %rdi
 	testq	%rbp, %rbp
 	movq	256(%rsp), %r12
-	je	.LBB11_272
+	je	.LBB11_273
 	movq	72(%rsp), %rax
 	leaq	48(%rax), %r14
-	jmp	.LBB11_268
-.LBB11_267:
+	jmp	.LBB11_269
+.LBB11_268:
 	addq	$56, %r14
 	decq	%rbp
-	je	.LBB11_272
-.LBB11_268:
+	je	.LBB11_273
+.LBB11_269:
 	movq	-16(%r14), %rbx
 	movq	(%r14), %r15
 	cmpq	$0, -32(%r14)
-	je	.LBB11_270
+	je	.LBB11_271
 	movq	-48(%r14), %rcx
 	callq	yurewha_heap_dealloc
-.LBB11_270:
+.LBB11_271:
 	testq	%r15, %r15
-	je	.LBB11_267
+	je	.LBB11_268
 	movq	%rbx, %rcx
 	callq	yurewha_heap_dealloc
-	jmp	.LBB11_267
-.LBB11_272:
+	jmp	.LBB11_268
+.LBB11_273:
 	testq	%rdi, %rdi
-	je	.LBB11_177
+	je	.LBB11_178
 	movq	72(%rsp), %rcx
 	callq	yurewha_heap_dealloc
-	jmp	.LBB11_177
+	jmp	.LBB11_178
 	.seh_endproc
 
 	.section	.text

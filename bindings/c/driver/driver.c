@@ -357,16 +357,16 @@ static void try_empties(void)
     }
 }
 
-/* A session that knows no hashes yet, or an index without hashes, may keep rooms for some that it got before it was refused more. They
+/* A session that knows at most one hash, or an index with one, may keep rooms for more that it got before it was refused others. They
  * are freed with it. */
 static bool may_keep_rooms(void)
 {
-    size_t hashes = 1;
+    size_t hashes = 2;
     if (role_of(0) == CHANGED && type_of(0) == SESSION)
         (void)!yurewha_session_num_known_hashes((yurewha_session *)line.arguments[0].data, &hashes);
     if (role_of(0) == CHANGED && type_of(0) == HASH_INDEX)
         (void)!yurewha_hash_index_len((yurewha_hash_index *)line.arguments[0].data, &hashes);
-    return hashes == 0;
+    return hashes <= 1;
 }
 
 /* Goes on to the next request: the middle one and the last two are tried, if the number of requests is known, and otherwise fewer and
