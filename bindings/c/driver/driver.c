@@ -357,16 +357,17 @@ static void try_empties(void)
     }
 }
 
-/* A session that knows at most one hash, or an index with one, may keep rooms for more that it got before it was refused others. They
- * are freed with it. */
-static bool may_keep_rooms(void)
+/* A session or an index may keep a room that it got before it was refused more, and one without hashes several. They are freed with it. */
+static bool may_keep(long blocks)
 {
-    size_t hashes = 2;
+    size_t hashes = 0;
     if (role_of(0) == CHANGED && type_of(0) == SESSION)
         (void)!yurewha_session_num_known_hashes((yurewha_session *)line.arguments[0].data, &hashes);
-    if (role_of(0) == CHANGED && type_of(0) == HASH_INDEX)
+    else if (role_of(0) == CHANGED && type_of(0) == HASH_INDEX)
         (void)!yurewha_hash_index_len((yurewha_hash_index *)line.arguments[0].data, &hashes);
-    return hashes <= 1;
+    else
+        return blocks == 0;
+    return 0 <= blocks && (blocks <= 1 || hashes == 0);
 }
 
 /* Goes on to the next request: the middle one and the last two are tried, if the number of requests is known, and otherwise fewer and
@@ -393,7 +394,7 @@ static bool is_refused(unsigned long number, bool all_from_there, const yurewha_
         expect(line.status == YUREWHA_MEMORY || (line.wanted != YUREWHA_DONE && line.status == line.wanted), "a request was refused");
     }
     if (line.status != YUREWHA_DONE) {
-        expect(live_blocks() == live || line.call->changes_anyway || (live_blocks() > live && may_keep_rooms()),
+        expect(line.call->changes_anyway || may_keep(live_blocks() - live),
                "it isn't done, and the number of blocks changes");
         expect(line.call->changes_anyway || is_told(before, true), "it isn't done, and a handle changes");
     }
