@@ -13,7 +13,7 @@ pub enum RangeFault {
     /// The range is said to have no chunks, or one of its ends is marked.
     #[error("a range without chunks, or with a marked end")]
     Range,
-    /// A position is taken. This is the first of them.
+    /// A position is taken: of a range the first of them, and of a session one that both have.
     #[error("position {0} is taken")]
     Overlap(u64),
     /// The first position plus the number of chunks is more than `u64::MAX`.

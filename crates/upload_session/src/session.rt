@@ -465,9 +465,8 @@ impl<C: ChunkRange> SessionOf<C> {
 
 impl<C: CopyableRange, H: KeptHashes<C::Alloc>> SessionOf<C, H> {
     /// Puts all runs of another session at their positions, and learns the hashes that it knows. Returns how many of these
-    /// are new, as [`SessionOf::put`] does. It doesn't matter which
-    /// of two sessions is put into the other, or of many which two come together first: the result stands for all their
-    /// chunks.
+    /// are new, as [`SessionOf::put`] does. It doesn't matter which of two sessions is joined to the other, or of many which
+    /// two come together first: the result stands for all their chunks.
     ///
     /// Before it allocates, it fails with the first of these that applies:
     ///
